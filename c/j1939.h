@@ -387,13 +387,14 @@ typedef struct {
 
 /* How many bytes .._at wants for each kind of handle, wherever they begin; .._size answers the same of the library that a program is
  * linked with. A listener's and an assembler's have room for so many messages in packets that are open at once, at most 271; a
- * sender's for so many bytes of a message, a controller's for so many broadcasts. No call with such a handle takes other memory. */
+ * sender's for so many bytes of a message, a controller's for so many broadcasts and sessions. No call with such a handle takes
+ * other memory. */
 /* clang-format off */
 #define J1939_LISTENER_SIZE(messages) (6720 + 1824 * (size_t)(messages))
 #define J1939_ASSEMBLER_SIZE(messages) (4416 + 1824 * (size_t)(messages))
 #define J1939_RECEIVER_SIZE ((size_t)1984)
 #define J1939_SENDER_SIZE(bytes) (192 + (size_t)(bytes))
-#define J1939_CONTROLLER_SIZE(broadcasts) (12288 + 1888 * (size_t)(broadcasts))
+#define J1939_CONTROLLER_SIZE(broadcasts, sessions) (8704 + 1888 * (size_t)(broadcasts) + 3744 * (size_t)(sessions))
 /* clang-format on */
 
 /* ---- a listener (J1939-21, 5.10; J1939-81, 4.2) */
@@ -538,8 +539,8 @@ int32_t j1939_sender_close(j1939_sender *sender);
  *    handed in: j1939_controller_tick; then .._take_frame until it answers 0, or, where the driver may have no room,
  *    .._peek_frame first; and then .._take_ended until it answers 0.
  *
- * What it hands out waits for you: 16 messages of one frame, 16 requests, one message in packets to its address, and as
- * many to all as .._new was given. What comes beyond is refused, or told by j1939_controller_missed.
+ * What it hands out waits for you: 16 messages of one frame, 16 requests, and as many messages in packets to its address,
+ * and to all, as .._new was given. What comes beyond is refused, or told by j1939_controller_missed.
  *
  * A call with a handle that holds no controller answers J1939_NO_PART, but for .._new and .._close, and where a frame,
  * a moment, a group or an acknowledgment is out of its range. Where a message is not accepted, by J1939_BAD_VALUE for
@@ -558,6 +559,10 @@ typedef struct {
                                        broadcast in packets, are neither handed out nor missed. What comes in packets to its
                                        address is handed out in any case, and .._ask hears its answer of any group, unless
                                        that is broadcast in packets */
+    uint8_t sessions;             /**< how many messages in packets to its address come in at once, one of each source, or wait
+                                       for you; where no box is free, another is refused (abort 2), and all with 0 */
+    uint8_t window;               /**< how many packets it lets a sender send at once, by a CTS; 0 sets no limit. What your
+                                       driver can't take at once is lost, so 16 fits most */
     const uint32_t *served;       /**< the groups that its program serves: a request for another is refused */
     size_t served_count;          /**< how many these are, 0 to 16 */
     const uint32_t *subscribed;   /**< the groups that it subscribes, where is_subscribed is not 0 */
@@ -565,7 +570,7 @@ typedef struct {
 } j1939_setup;
 
 /** Opens a controller that is made for this. J1939_BAD_VALUE for an address above 253, more groups, or one of 2^18 and above.
- * It takes all its memory here: some 12 kB, and 1.9 kB for each broadcast.
+ * It takes all its memory here: some 9 kB, 1.9 kB for each broadcast, and 3.7 kB for each session.
  * @return 0, J1939_BAD_VALUE, J1939_NO_MEMORY, J1939_IN_USE */
 int32_t j1939_controller_new(j1939_controller *controller, const j1939_setup *setup);
 

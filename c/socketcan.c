@@ -353,6 +353,8 @@ static void run(station *s, uint8_t preferred, uint64_t last) {
                                                              .address = preferred,
                                                              .delay = (uint8_t)s->start,
                                                              .broadcasts = 1,
+                                                             .sessions = 4,
+                                                             .window = 16,
                                                              .served = SERVED,
                                                              .served_count = sizeof SERVED / sizeof SERVED[0]}));
     while ((now = moment()) < last && !is_over) {

@@ -6,7 +6,7 @@
 #include <string.h>
 
 /* The byte before and behind what is handed over stays. */
-enum { LARGEST = 600000, MARK = 0xA5 };
+enum { LARGEST = 1000000, MARK = 0xA5 };
 static uint8_t around[LARGEST];
 
 static j1939_setup setup = {.name = 1, .address = 3};
@@ -95,11 +95,13 @@ static void sizes(void) {
     wants(open_receiver, j1939_receiver_size()), refuses(open_receiver, j1939_receiver_size());
     for (bytes = 9; bytes <= J1939_LONGEST; bytes++) wants(open_sender, j1939_sender_size(bytes));
     bytes = 20, refuses(open_sender, j1939_sender_size(20));
-    for (int broadcasts = 0; broadcasts < 256; broadcasts++) {
-        setup.broadcasts = (uint8_t)broadcasts;
+    for (int boxes = 0; boxes < 256; boxes++) {
+        setup.broadcasts = (uint8_t)boxes, setup.sessions = 0;
+        wants(open_controller, j1939_controller_size(&setup));
+        setup.broadcasts = 0, setup.sessions = (uint8_t)boxes;
         wants(open_controller, j1939_controller_size(&setup));
     }
-    setup.broadcasts = 2, refuses(open_controller, j1939_controller_size(&setup));
+    setup.broadcasts = 2, setup.sessions = 2, refuses(open_controller, j1939_controller_size(&setup));
     EXPECT(j1939_listener_size(2) == J1939_LISTENER_SIZE(2) && j1939_listener_size(1000) == J1939_LISTENER_SIZE(271));
     EXPECT(j1939_controller_size(NULL) == 0);
 }

@@ -1,5 +1,6 @@
 -- What the book notes of what a controller received, and of how its transfers ended.
 use Rattle.std.specs.Prelude.{◌≡◌, ◌++◌, ◌∷◌, ℕ, List, [], Option, None, Some, map}
+use Rattle.std.specs.List.{slice_get}
 use Rattle.j39_frame.specs.Frame.{FrameRecord}
 use Rattle.j39_frame.specs.Pgn.{pgn_raw}
 use Rattle.j39_frame.specs.Stamp.{stamp_micros}
@@ -32,5 +33,5 @@ done_by ended number = []
 
 -- the message in packets that lies there once the frame was heard is noted, and the transfer that is then done
 pub record IsNoted (w : Who) (H : List Call) (f : FrameRecord) (number : Option ℕ) (old new : Book) : Type 0 where
-  pub delivered : delivered_in new ≡ delivered_in old ++ listed (reception w (At f.stamp (Hear f) ∷ H)).waits
+  pub delivered : delivered_in new ≡ delivered_in old ++ listed (slice_get (reception w (At f.stamp (Hear f) ∷ H)).waits 0)
   pub done : new.done.items ≡ old.done.items ++ done_by (next_transfer_ended w (At f.stamp (Hear f) ∷ H)) number

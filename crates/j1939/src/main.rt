@@ -12,6 +12,7 @@ ghost use Rattle.j1939.specs.Done.{Follows, IsDone, IsDoneBy, IsDoneByText, IsDo
 
 mod input;
 mod table;
+mod terminal;
 
 use input::{Unopened, opened};
 use j39_cli::{
@@ -26,6 +27,7 @@ use std::io::{BufWriter, ErrorKind};
 use std::process::ExitCode;
 use std::{env, fs, io};
 use table::table_text;
+use terminal::add_size;
 
 /// The bytes that are kept before they are written.
 const OUT_BUFFER: usize = 65_536;
@@ -69,6 +71,7 @@ fn answer<E: Sink>(rt: &HostRuntime, err: &mut E) -> io::Result<u8>
     for word in env::args(rt)? {
         words.push(word)?;
     }
+    add_size(rt, &mut words)?;
     let out = BufWriter::with_capacity(rt.alloc(), OUT_BUFFER, rt.stdout())?;
     Ok(follow(rt, words.as_slice(), &mut Told::new(out), err))
 }

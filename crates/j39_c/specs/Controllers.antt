@@ -80,6 +80,8 @@ IsNew s served subscribed c = Is (record {
   served = served;
   subscribed = subscribed;
   boxes = s.broadcasts;
+  sessions = s.sessions;
+  window = s.window;
   brought = nothing;
 }) [] c
 
@@ -246,12 +248,12 @@ IsNamed (negsuc n) m w H = Unit {0}
 
 -- what waited in packets, at its address and to all
 abbrev pub Waited : ℤ → WholeMessage → Who → List Call → Type 0
-Waited (pos zero) m w H = ((reception w H).waits ≡ None) × (slice_get (waiting w H) 0 ≡ None)
+Waited (pos zero) m w H = (slice_get (reception w H).waits 0 ≡ None) × (slice_get (waiting w H) 0 ≡ None)
 Waited (pos (suc zero)) m w H = Unit {0}
 Waited (pos (suc (suc zero))) m w H =
-    ((reception w H).waits ≡ Some (long_in m)) × ((hearing_in m).destination ≡ Some w.address)
+    (slice_get (reception w H).waits 0 ≡ Some (long_in m)) × ((hearing_in m).destination ≡ Some w.address)
 Waited (pos (suc (suc (suc n)))) m w H =
-    ((reception w H).waits ≡ None) × (slice_get (waiting w H) 0 ≡ Some (long_in m))
+    (slice_get (reception w H).waits 0 ≡ None) × (slice_get (waiting w H) 0 ≡ Some (long_in m))
 Waited (negsuc n) m w H = Unit {0}
 
 -- ---- news: 1 the address was lost, 2 another sends from it, 3 messages were missed, 4 and more that another of its NAME claims an

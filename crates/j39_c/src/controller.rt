@@ -49,6 +49,10 @@ pub struct PlainSetup {
     pub broadcasts: u8,
     /// 0 where its program subscribes all groups.
     pub is_subscribed: u8,
+    /// How many messages in packets to its address it receives at once.
+    pub sessions: u8,
+    /// How many packets it lets a sender send at once; 0 sets no limit.
+    pub window: u8,
 }
 
 /// Opens a controller that is made for this, whose program serves these groups, and subscribes these, unless it does all: 0; -1 for an
@@ -383,6 +387,8 @@ fn make(
         served: &groups[..served.len()],
         subscribed,
         broadcasts: setup.broadcasts,
+        sessions: setup.sessions,
+        window: setup.window,
     };
     match Controller::boxed(alloc, &made) {
         Ok(Some(made)) => Ok(made),

@@ -130,7 +130,7 @@ fn put_message(controller: &mut Controller, out: &mut WholeMessage, priority: &m
 
 /// Takes the message in packets to its address, where one waits.
 fn put_transfer(controller: &mut Controller, out: &mut WholeMessage) -> bool
-    ensures waits { Says (λ w H. (reception w H).waits ≡ long_if result out.new) controller.old }
+    ensures waits { Says (λ w H. slice_get (reception w H).waits 0 ≡ long_if result out.new) controller.old }
     ensures addressed { result ≡ true → Says (λ w H. (hearing_in out.new).destination ≡ Some w.address) controller.old }
     ensures named { result ≡ true → Says (λ w H. (hearing_in out.new).name ≡ transfer_sender w H) controller.old }
     ensures goes { result ≡ true → Continues (ReleaseTransfer true) controller.old controller.new }

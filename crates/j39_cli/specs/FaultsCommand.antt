@@ -84,7 +84,7 @@ abbrev pub makes_by : FaultOptions → List RowRecord → Making
 makes_by o = makes_told o.told (versions_in o.conversions) o.rows.asked o.rows.format
 
 abbrev pub asks_told : FaultsTold → FilterRecord → Wanting
-asks_told (InMessages telling) = AsksForFaults
+asks_told (InMessages telling) = AsksForFaults telling
 asks_told Now = AsksForFaultsNow
 
 abbrev pub asks_by : FaultOptions → Wanting

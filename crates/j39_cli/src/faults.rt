@@ -38,10 +38,10 @@ before of that group from that address, or that is the first. With --all, of eac
 message. A message with no code writes none. Who asks to clear codes is told too:
 the previously active ones (DM3), or the active ones (DM11), of all (FF) or of one.
 
-With --changes instead: what became of each active code from one DM1 of an address
-to its next, under the same NAME or before one was known: set (that before doesn't
-name it, or there is none), again (its count rose), cleared (this one doesn't name
-it); silence clears none.
+With --changes instead: what became of each active code from one DM1 of a controller
+to its next, also from another address, or before its NAME was known: set (that
+before doesn't name it, or there is none), again (its count rose), cleared (this one
+doesn't name it); silence clears none.
 
 With --now instead: each code that the last DM1 of a controller names, or that it
 names none, at the log's end or --until. Then the line's time is that of the first

@@ -68,9 +68,9 @@ pub(crate) fn command<'a>(alloc: Global) -> Result<Command<'a>, AllocError>
     let help =
         "The parameters to show alone, beside faults: 1 to 32 SPNs, with commas between them";
     let command = with_option(alloc, command, "spn", "SPN,..", false, help);
-    let help = "How many rows the terminal has, 2 to 1000; without it, 24";
+    let help = "How many rows the terminal has, 2 to 1000; without it, LINES says so, or 24";
     let command = with_option(alloc, command, "rows", "N", false, help);
-    let help = "How many columns it has, 20 to 512; without it, 80";
+    let help = "How many columns it has, 20 to 512; without it, COLUMNS says so, or 80";
     with_log(
         alloc,
         with_option(alloc, command, "width", "N", false, help),

@@ -1,9 +1,10 @@
 -- What is told of one message is asked for as a whole, or not at all.
 use Rattle.j39_fault_reports.proofs.Common.{◌≡◌, ◌∙◌, ◌++◌, ◌∷◌, [], ◌&&◌, ℕ, Bool, true, false, List, Option, Some, None, ap, map, refl, sym, flat_map, filter-append, codes_by, version_for, change_since, clearing_by, cleared_in, kind_of, lamps_of, Change, Code, Conversion, Version, Kind, Lamps, Is, FilterRecord, no_filter, takes_message, Hearing}
-use Rattle.j39_fault_reports.specs.FaultChanges.{became, bytes_before, changes_by, changes_of, is_active}
+use Rattle.j39_fault_reports.specs.FaultChanges.{became, changes_by, changes_of, last_bytes}
 use Rattle.j39_fault_reports.specs.Faults.{Fault, asks_fault, codes_or_none, fault_of, faults_by, faults_in, faults_or_clearing, faults_taken}
 use Rattle.j39_fault_reports.specs.FaultsSoFar.{told_faults, told_next}
-use Rattle.j39_fault_reports.specs.News.{Chosen, is_news, is_of_faults, last_from}
+use Rattle.j39_fault_reports.specs.News.{Chosen, is_news, is_of_faults}
+use Rattle.j39_fault_reports.specs.Spoken.{active_among, is_active, sent_before, spoken_in}
 use Rattle.j39_fault_reports.specs.Told.{told_here, told_of}
 use Rattle.j39_fault_reports.specs.declared.fault_news.telling.Telling.{Telling}
 use Rattle.j39_fault_reports.specs.declared.fault_news.telling.Telling.TheVariants.{News, All, Changes}
@@ -71,7 +72,7 @@ module _ (which : FilterRecord) (first : ℕ) (m : Hearing) where
       by false = whole_none
   whole_told All conversions before = whole_in conversions (cleared_in m.message.pgn m.message.bytes)
   whole_told Changes conversions before =
-      whole_changes (version_for conversions m.name) (bytes_before (last_from m.message.pgn m.message.source before) m.name) (kind_of m.message.pgn) (lamps_of m.message.bytes)
+      whole_changes (version_for conversions m.name) (last_bytes (sent_before (spoken_in (active_among before)) m)) (kind_of m.message.pgn) (lamps_of m.message.bytes)
 
 -- without a filter all is taken
 pub taken_all : (first : ℕ) (faults : List Fault) → faults_taken no_filter first faults ≡ faults

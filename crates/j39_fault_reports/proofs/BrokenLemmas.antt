@@ -1,5 +1,5 @@
 -- What a run that tells faults counts, by the account that it leaves.
-use Rattle.j39_fault_reports.proofs.Common.{◌≡◌, ◌==◌, ◌&&◌, ℕ, Bool, true, false, List, Option, Some, None, ap, drop, if◌then◌else◌, length, refl, subst, sym, slice_index, pgn_of, transport_control_group, transport_data_group, announced_in, destination_of, source_of, is_key, key_between, Packet, IfSome_then, Err, IfOk, IfSome, Ok, OnOk, Result, Turn, FrameRecord, Wanting, Making, Meeting, Output}
+use Rattle.j39_fault_reports.proofs.Common.{◌≡◌, ◌==◌, ℕ, false, List, Option, ap, subst, sym, pgn_of, transport_control_group, IfSome_then, Err, IfOk, IfSome, Ok, OnOk, Result, Turn, FrameRecord, Wanting, Making, Meeting, Output}
 use Rattle.j39_listen.proofs.Reported.{announced_none}
 use Rattle.j39_listen.specs.Ran.{Ran}
 use Rattle.j39_listen.specs.Run.{HasMetLog}

@@ -2,7 +2,8 @@
 use Rattle.j39_fault_reports.proofs.Common.{◌≡◌, ◌∙◌, ◌+◌, ◌++◌, ◌∷◌, [], ℕ, List, Option, None, ap, append-nil, arith, length, length-append, refl, subst, sym, Appends, Appends-nil, filter-append, AppendsFront, Conversion, FrameRecord, Begins, Closes, MakesOne, Meets, StopsAtEnd, Chooses, capped, FilterRecord, first_stamp, in_time, AreHeardWith, Chooser, HeardAtWith, Hearing, or_none, Hears, Output, Format, Listener, heard_more, heard_below_unique}
 use Rattle.j39_fault_reports.specs.CurrentPlaces.{LastActives}
 use Rattle.j39_fault_reports.specs.CurrentSoFar.{AreKept, HasKept, NowSubject, TakesFrame, taken_below}
-use Rattle.j39_fault_reports.specs.FaultsNow.{active_among, faults_now, is_active_message, now_taken}
+use Rattle.j39_fault_reports.specs.FaultsNow.{faults_now, now_taken}
+use Rattle.j39_fault_reports.specs.Spoken.{active_among, is_active_message}
 use Rattle.j39_fault_reports.specs.FaultsNowRun.{AsksForFaultsNow, MakesFaultsNowIn, faults_now_of, now_lines, now_text}
 use Rattle.j39_fault_reports.specs.FaultsSoFar.{manner_of, with_either, with_frame}
 use Rattle.j39_fault_reports.specs.News.{is_fault_group}

@@ -201,10 +201,10 @@ module _ (form : Format) (rows : Manner) (which : Chosen) (first : ℕ) (ms : Li
 -- ---- nothing is told
 
 pub tells_nothing : (form : Format) (rows : Manner) (which : Chosen) (first : ℕ) (last : LastFaults) (ms : List Hearing) (o : Option Hearing) (made : Made) (held : Option (List ℕ))
-    → faults_among (or_none o) ≡ [] → told_next which ms o ≡ [] → Remembers last ms → made.messages ≡ 0 → made.lines ≡ 0
+    → faults_among (or_none o) ≡ [] → told_next which ms o ≡ [] → Remembers which.telling last ms → made.messages ≡ 0 → made.lines ≡ 0
     → Tells form rows which first last ms o made held held
 tells_nothing form rows which first last ms o made held none untold remembers m l = record {
-  remembers = subst (Remembers last) (sym (ap (λ (x : List Hearing). ms ++ in_time which.asked first x) none ∙ append-nil ms)) remembers;
+  remembers = subst (Remembers which.telling last) (sym (ap (λ (x : List Hearing). ms ++ in_time which.asked first x) none ∙ append-nil ms)) remembers;
   made_is = same_made _ _ (m ∙ sym (ap (λ (x : List Hearing). capped (length x)) none)) (l ∙ sym (ap (λ (x : List Fault). capped (lines_in rows (faults_taken which.asked first x))) untold));
   written = subst (Appends held held) (sym (ap (λ (x : List Fault). faults_text form rows (faults_taken which.asked first x)) untold ∙ faults_text-none form rows)) (Appends-nil held);
 }
@@ -235,14 +235,14 @@ sound F heard more = filter-append is_of_faults heard more
 
 pub news_meets : (form : Format) (s : Subject) (a a' : FaultNews) → a'.writing ≡ a.writing → a'.choice ≡ a.choice → (f : FrameRecord) (made : Made) (old new : Option (List ℕ))
     → ((which : FilterRecord) (F : List FrameRecord) → Chooses which a.chooser F → Chooses which a'.chooser (F ++ f ∷ []))
-    → ((F : List FrameRecord) (ms : List Hearing) → Hears a.listener F → Chooses (chosen_of a.choice).asked a'.chooser (F ++ f ∷ []) → Remembers a.last ms
+    → ((F : List FrameRecord) (ms : List Hearing) → Hears a.listener F → Chooses (chosen_of a.choice).asked a'.chooser (F ++ f ∷ []) → Remembers a.choice.telling a.last ms
     → MeetsFrame a.writing.form (manner_of a.writing) (chosen_of a.choice) a'.listener a'.last a.announced a'.announced F f ms made old new)
     → a'.made ≡ made_sum a.made made → Meets (HasTold form s) a a' (f ∷ []) old new
 news_meets form s a a' writing choice f made old new notes meets sum = λ F before has.
     let ms = faults_among has.heard in
     let first = first_stamp (F ++ f ∷ []) in
     let its = in_time s.which.asked first ms in
-    let remembers = subst (Remembers a.last) (same_times s.which.asked is_of_faults F (f ∷ []) has.heard has.are_heard) has.remembers in
+    let remembers = subst (λ (t : Chosen). Remembers t.telling a.last its) (sym has.chosen_is) (subst (Remembers s.which.telling a.last) (same_times s.which.asked is_of_faults F (f ∷ []) has.heard has.are_heard) has.remembers) in
     let noted = notes s.which.asked F has.chooses in
     let before_is : before ≡ faults_of form s.manner s.which first ms = has.output_is ∙ same_first form s.manner s.which F (f ∷ []) has.heard has.are_heard in
     let noted_here = subst (λ (t : Chosen). Chooses t.asked a'.chooser (F ++ f ∷ [])) (sym has.chosen_is) noted in
@@ -262,7 +262,7 @@ news_meets form s a a' writing choice f made old new notes meets sum = λ F befo
         are_heard = heard_more is_fault_group F f has.heard met.heard has.are_heard met.heard_at;
         output_is = refl;
         hears = met.hears;
-        remembers = subst (Remembers a'.last) (sym (ap (in_time s.which.asked first) are ∙ in_time-append s.which.asked first ms (faults_among (or_none met.heard)))) met.tells.remembers;
+        remembers = subst (Remembers s.which.telling a'.last) (sym (ap (in_time s.which.asked first) are ∙ in_time-append s.which.asked first ms (faults_among (or_none met.heard)))) met.tells.remembers;
         made_is = sum ∙ ap (λ (x : Made). made_sum x made) (has.made_is ∙ ap made_of before_is) ∙ ap (made_sum (made_of (faults_of form s.manner s.which first ms))) met.tells.made_is
             ∙ sym (made_more form s.manner s.which first ms met.heard) ∙ sym (ap (λ (x : List Hearing). made_of (faults_of form s.manner s.which first x)) are);
         announced_is = met.announced_is ∙ ap (λ (x : Announced). with_either (with_frame x f) met.heard) has.announced_is ∙ announced_more F has.heard f met.heard;
@@ -307,13 +307,13 @@ news_one s = news_one_in Line s
 -- a fault of the writer at a frame
 pub news_stops : (form : Format) (s : Subject) (a : FaultNews) (chooser : Chooser) (f : FrameRecord) (old new : Option (List ℕ))
     → ((which : FilterRecord) (F : List FrameRecord) → Chooses which a.chooser F → Chooses which chooser (F ++ f ∷ []))
-    → ((F : List FrameRecord) (ms : List Hearing) → Hears a.listener F → Chooses (chosen_of a.choice).asked chooser (F ++ f ∷ []) → Remembers a.last ms → StopsFrame a.writing.form (manner_of a.writing) (chosen_of a.choice) F f ms old new)
+    → ((F : List FrameRecord) (ms : List Hearing) → Hears a.listener F → Chooses (chosen_of a.choice).asked chooser (F ++ f ∷ []) → Remembers a.choice.telling a.last ms → StopsFrame a.writing.form (manner_of a.writing) (chosen_of a.choice) F f ms old new)
     → (bus : List ℕ) → Stops (HasTold form s) (MakesFaultsIn form s.manner s.which bus) a (f ∷ []) old new
 news_stops form s a chooser f old new notes stops bus = λ F G before all has made.
     let ms = faults_among has.heard in
     let stamp = first_stamp (F ++ f ∷ []) in
     let its = in_time s.which.asked stamp ms in
-    let remembers = subst (Remembers a.last) (same_times s.which.asked is_of_faults F (f ∷ []) has.heard has.are_heard) has.remembers in
+    let remembers = subst (λ (t : Chosen). Remembers t.telling a.last its) (sym has.chosen_is) (subst (Remembers s.which.telling a.last) (same_times s.which.asked is_of_faults F (f ∷ []) has.heard has.are_heard) has.remembers) in
     let before_is : before ≡ faults_of form s.manner s.which stamp ms = has.output_is ∙ same_first form s.manner s.which F (f ∷ []) has.heard has.are_heard in
     let noted_here = subst (λ (t : Chosen). Chooses t.asked chooser (F ++ f ∷ [])) (sym has.chosen_is) (notes s.which.asked F has.chooses) in
     let stop = subst (λ (t : Chosen). StopsFrame form s.manner t F f its old new) has.chosen_is
@@ -335,10 +335,10 @@ news_stops form s a chooser f old new notes stops bus = λ F G before all has ma
 pub news_asks : (form : Format) (s : Subject) (a : FaultNews) (chooser : Chooser) (f : FrameRecord)
     → ((which : FilterRecord) (F : List FrameRecord) → Chooses which a.chooser F → Chooses which chooser (F ++ f ∷ []))
     → ((F : List FrameRecord) (heard : List Hearing) → Hears a.listener F → AreHeardWith is_fault_group F heard → Chooses (chosen_of a.choice).asked chooser (F ++ f ∷ [])
-    → Remembers a.last (in_time (chosen_of a.choice).asked (first_stamp (F ++ f ∷ [])) (faults_among heard)) → AsksForFaults (chosen_of a.choice).asked F f)
-    → (F : List FrameRecord) (output : Output) → HasTold form s a F output → AsksForFaults s.which.asked F f
+    → Remembers a.choice.telling a.last (in_time (chosen_of a.choice).asked (first_stamp (F ++ f ∷ [])) (faults_among heard)) → AsksForFaults a.choice.telling (chosen_of a.choice).asked F f)
+    → (F : List FrameRecord) (output : Output) → HasTold form s a F output → AsksForFaults s.which.telling s.which.asked F f
 news_asks form s a chooser f notes asked F output has =
-    let which = (chosen_of a.choice).asked in
-    let same = ap (λ (t : Chosen). t.asked) (sym has.chosen_is) in
-    let remembers = subst (Remembers a.last) (ap (λ (w : FilterRecord). in_time w (first_stamp F) (faults_among has.heard)) same ∙ same_times which is_of_faults F (f ∷ []) has.heard has.are_heard) has.remembers in
-    subst (λ (w : FilterRecord). AsksForFaults w F f) (sym same) (asked F has.heard has.hears has.are_heard (subst (λ (w : FilterRecord). Chooses w chooser (F ++ f ∷ [])) same (notes s.which.asked F has.chooses)) remembers)
+    let remembers = subst (Remembers s.which.telling a.last) (same_times s.which.asked is_of_faults F (f ∷ []) has.heard has.are_heard) has.remembers in
+    subst (λ (t : Chosen). AsksForFaults t.telling t.asked F f) has.chosen_is (asked F has.heard has.hears has.are_heard
+    (subst (λ (t : Chosen). Chooses t.asked chooser (F ++ f ∷ [])) (sym has.chosen_is) (notes s.which.asked F has.chooses))
+    (subst (λ (t : Chosen). Remembers t.telling a.last (in_time t.asked (first_stamp (F ++ f ∷ [])) (faults_among has.heard))) (sym has.chosen_is) remembers))

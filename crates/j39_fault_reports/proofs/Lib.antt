@@ -2,6 +2,7 @@
 pub mod Common
 -- the news of faults: what is kept
 pub mod PlaceLemmas
+pub mod MoveLemmas
 pub mod TellLemmas
 -- the news of faults: the lines of a message
 pub mod FaultLineLemmas
@@ -14,7 +15,6 @@ pub mod PutLemmas
 pub mod BrokenLemmas
 pub mod WholeLemmas
 -- the faults that are there now
-pub mod TellingLemmas
 pub mod StandingLemmas
 pub mod CurrentLemmas
 pub mod NowPlaceLemmas

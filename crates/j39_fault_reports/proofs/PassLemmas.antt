@@ -1,10 +1,9 @@
 -- A frame at which nothing is heard, and that leaves the account as it is.
-use Rattle.j39_fault_reports.proofs.Common.{◌≡◌, ◌∙◌, ◌+◌, ◌==◌, ◌++◌, ◌∷◌, [], ℕ, Bool, false, List, Option, None, ap, arith, count_by, refl, sym, FrameRecord, pgn_of, transport_control_group, Meets, Chooses, FilterRecord, capped, first_stamp, Hearing, Format, Made, made_sum, same_made}
+use Rattle.j39_fault_reports.proofs.Common.{◌≡◌, ◌∙◌, ◌+◌, ◌++◌, ◌∷◌, [], ℕ, Bool, false, List, Option, None, ap, arith, count_by, refl, sym, FrameRecord, pgn_of, Meets, Chooses, FilterRecord, capped, first_stamp, Hearing, Format, Made, made_sum, same_made}
 use Rattle.std.proofs.lemmas.Bool.{or_parts}
 use Rattle.j39_groups.specs.Readings.{is_network_group}
 use Rattle.j39_listen.specs.Counting.{one_if}
 use Rattle.j39_listen.specs.ReportSoFar.{made_by}
-use Rattle.j39_listen.proofs.CountLemmas.{capped_sum}
 use Rattle.j39_listen.proofs.LineLemmas.{capped-sum}
 use Rattle.j39_listen.proofs.ListenerLemmas.{hears_single, outside_claims, silent_outside}
 use Rattle.j39_fault_reports.specs.Broken.{announces_codes}

@@ -1,8 +1,7 @@
 -- What is kept of the last message of active codes of each address, and how a message more changes it.
-use Rattle.std.specs.Prelude.{◌≡◌, ◌∷◌, [], ◌+◌, ◌<◌, ◌≤◌, ℕ, Bool, true, false, List, Option, Some, None, if◌then◌else◌, length, map, option_map, slice_index_or}
+use Rattle.std.specs.Prelude.{◌∷◌, [], ◌+◌, ℕ, Bool, true, false, List, Option, Some, None, if◌then◌else◌, map, option_map, slice_index_or}
 use Rattle.j39_memory.specs.declared.stored.Stored.{Stored}
 use Rattle.j39_memory.specs.Stored.{value_of}
-use Rattle.j39_frame.specs.Origin.{is_same_or_none}
 use Rattle.j39_frame.specs.Stamp.{stamp_micros}
 use Rattle.j39_faults.specs.Changes.{is_same_fault}
 use Rattle.j39_faults.specs.declared.code.Code.{Code}
@@ -11,7 +10,8 @@ use Rattle.j39_faults.specs.declared.lamps.Lamps.{Lamps}
 use Rattle.j39_listen.specs.Counting.{capped}
 use Rattle.j39_listen.specs.Heard.{Hearing}
 use Rattle.j39_fault_reports.specs.Faults.{codes_or_none}
-use Rattle.j39_fault_reports.specs.FaultsNow.{codes_in, is_same_name}
+use Rattle.j39_fault_reports.specs.FaultsNow.{codes_in}
+use Rattle.j39_fault_reports.specs.News.{goes_on}
 use Rattle.j39_fault_reports.specs.declared.current_faults.standing.Standing.{Standing}
 
 -- a code, or that there is none; since when, and how often
@@ -68,10 +68,10 @@ continued before stamp code = going_on (found_in before code) code stamp
 abbrev pub next_standings : List StandingRecord → ℕ → List Code → List StandingRecord
 next_standings before stamp cs = map (continued before stamp) (codes_or_none cs)
 
--- what stood under this NAME, or under none
+-- what stood, if it may be of who speaks now under this NAME
 abbrev pub standings_under : Option LastRecord → Option ℕ → List StandingRecord
 standings_under None name = []
-standings_under (Some last) name = if is_same_or_none last.name name then last.standings else []
+standings_under (Some last) name = if goes_on last.name name then last.standings else []
 
 abbrev pub last_by : List Conversion → Option LastRecord → Hearing → Lamps → LastRecord
 last_by conversions before m lamps = record {
@@ -83,21 +83,6 @@ last_by conversions before m lamps = record {
   standings = next_standings (standings_under before m.name) m.stamp (codes_in conversions m);
 }
 
--- of another address, unless it was under this NAME
-abbrev pub left_by : Option ℕ → Option LastRecord → Option LastRecord
-left_by name None = None
-left_by name (Some last) = if is_same_name last.name name then None else Some last
-
--- the places below n are left, and the rest are as they were
-pub record AreLeft (name : Option ℕ) (old : LastActives) (n : ℕ) (new : LastActives) : Type 0 where
-  pub long : length new ≡ length old
-  pub left : (a : ℕ) → a < n → at new a ≡ left_by name (at old a)
-  pub rest : (a : ℕ) → n ≤ a → at new a ≡ at old a
-
--- at each address behind the message
-pub record HaveTaken (conversions : List Conversion) (old : LastActives) (m : Hearing) (lamps : Lamps) (new : LastActives) : Type 0 where
-  pub places : length old ≡ 256 → length new ≡ 256
-  pub here : length old ≡ 256
-      → at new m.message.source ≡ Some (last_by conversions (at old m.message.source) m lamps)
-  pub elsewhere : length old ≡ 256 → (a : ℕ) → a < 256 → (a ≡ m.message.source → ⊥)
-      → at new a ≡ left_by m.name (at old a)
+-- under which NAME
+abbrev pub name_in : LastRecord → Option ℕ
+name_in last = last.name

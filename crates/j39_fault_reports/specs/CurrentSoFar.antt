@@ -1,9 +1,10 @@
 -- The steps of a run that tells which faults are there now: nothing is written before its end.
-use Rattle.std.specs.Prelude.{◌≡◌, ◌++◌, ◌∷◌, [], ◌<◌, ℕ, zero, suc, true, false, List, Option, Some, None, filter, length, map}
+use Rattle.std.specs.Prelude.{◌≡◌, ◌+◌, ◌++◌, ◌∷◌, [], ◌<◌, ℕ, zero, suc, List, Option, Some, None, length, map}
 use Rattle.j39_frame.specs.Frame.{FrameRecord}
 use Rattle.j39_faults.specs.LampBits.{lamps_of}
 use Rattle.j39_faults.specs.declared.code.Code.{Code}
 use Rattle.j39_faults.specs.declared.conversion.Conversion.{Conversion}
+use Rattle.j39_faults.specs.declared.lamps.Lamps.{Lamps}
 use Rattle.j39_listen.specs.Counting.{capped}
 use Rattle.j39_listen.specs.Chooses.{Chooses}
 use Rattle.j39_listen.specs.Filter.{FilterRecord, first_stamp as stamp_of_first, in_time}
@@ -13,8 +14,10 @@ use Rattle.j39_listen.specs.Output.{Output, nothing}
 use Rattle.j39_listen.specs.declared.format.Format.{Format}
 use Rattle.j39_listen.specs.declared.listener.Listener.{Listener}
 use Rattle.j39_fault_reports.specs.Faults.{Manner, codes_or_none}
-use Rattle.j39_fault_reports.specs.CurrentPlaces.{LastRecord, LastActives, StandingRecord, at}
-use Rattle.j39_fault_reports.specs.FaultsNow.{Now, active_among, codes_in, first_stamp, is_at, lasts, now_taken, telling, tells}
+use Rattle.j39_fault_reports.specs.CurrentPlaces.{LastRecord, LastActives, StandingRecord, at, name_in}
+use Rattle.j39_fault_reports.specs.Places.{IsKept}
+use Rattle.j39_fault_reports.specs.FaultsNow.{Now, codes_in, earliest, naming, now_taken}
+use Rattle.j39_fault_reports.specs.Spoken.{active_among, spoken_in}
 use Rattle.j39_fault_reports.specs.FaultsSoFar.{IsBroken, announced_in, manner_of, with_either, with_frame}
 use Rattle.j39_fault_reports.specs.News.{is_fault_group}
 use Rattle.j39_fault_reports.specs.declared.fault_news.announced.Announced.{Announced}
@@ -22,42 +25,33 @@ use Rattle.j39_fault_reports.specs.declared.current_faults.account.FaultsNow.{Fa
 
 -- ---- what it stands for
 
-abbrev pub standing_of : List Conversion → List Hearing → Hearing → Option Code → StandingRecord
-standing_of conversions ms m code = record {
+-- a code of a message, behind those of its controller before
+abbrev pub standing_of : List Conversion → Hearing → List Hearing → Option Code → StandingRecord
+standing_of conversions m before code = record {
   code = code;
-  since = first_stamp m.stamp (telling conversions ms m.message.source m.name code);
-  often = capped (length (telling conversions ms m.message.source m.name code));
+  since = earliest m.stamp (naming conversions code before);
+  often = capped (length (naming conversions code before) + 1);
 }
 
--- nobody's last message comes from there
-pub record IsEmptyAt (conversions : List Conversion) (ms : List Hearing) (a : ℕ) : Type 0 where
-  pub none : filter (is_at a) (lasts ms) ≡ []
-  pub untold : (name : Option ℕ) (code : Option Code) → telling conversions ms a name code ≡ []
+-- of its last message
+abbrev pub kept_of : List Conversion → Hearing → List Hearing → Lamps → LastRecord
+kept_of conversions m before lamps = record {
+  name = m.name;
+  stamp = m.stamp;
+  destination = m.destination;
+  pgn = m.message.pgn;
+  lamps = lamps;
+  standings = map (standing_of conversions m before) (codes_or_none (codes_in conversions m));
+}
 
--- one's does, and this is kept of it
-pub record IsLastAt (conversions : List Conversion) (ms : List Hearing) (a : ℕ) (last : LastRecord) : Type 0 where
-  pub message : Hearing
-  pub alone : filter (is_at a) (lasts ms) ≡ message ∷ []
-  pub here : message.message.source ≡ a
-  pub name_is : last.name ≡ message.name
-  pub stamp_is : last.stamp ≡ message.stamp
-  pub destination_is : last.destination ≡ message.destination
-  pub pgn_is : last.pgn ≡ message.message.pgn
-  pub lamps_are : lamps_of message.message.bytes ≡ Some last.lamps
-  pub standings_are : last.standings ≡ map (standing_of conversions ms message) (codes_or_none (codes_in conversions message))
-  pub untold : (name : Option ℕ) (code : Option Code) → tells conversions a name code message ≡ false
-      → telling conversions ms a name code ≡ []
-  pub told : (name : Option ℕ) (code : Option Code) → tells conversions a name code message ≡ true
-      → (front : List Hearing) × (telling conversions ms a name code ≡ front ++ message ∷ [])
-
-abbrev pub IsKeptAt : List Conversion → List Hearing → ℕ → Option LastRecord → Type 0
-IsKeptAt conversions ms a None = IsEmptyAt conversions ms a
-IsKeptAt conversions ms a (Some last) = IsLastAt conversions ms a last
+abbrev pub IsLast : List Conversion → Hearing → List Hearing → LastRecord → Type 0
+IsLast conversions m before last =
+    (lamps : Lamps) × (lamps_of m.message.bytes ≡ Some lamps) × (last ≡ kept_of conversions m before lamps)
 
 -- of these messages
 pub record AreKept (conversions : List Conversion) (places : LastActives) (ms : List Hearing) : Type 0 where
   pub places_are : length places ≡ 256
-  pub each : (a : ℕ) → a < 256 → IsKeptAt conversions ms a (at places a)
+  pub each : (a : ℕ) → a < 256 → IsKept name_in (IsLast conversions) (spoken_in ms a) (at places a)
 
 -- ---- what is written of it
 

@@ -1,5 +1,5 @@
 -- What becomes of a controller's active codes, from one message of DM1 to the next (own).
-use Rattle.std.specs.Prelude.{◌++◌, ◌∷◌, [], ℕ, Bool, true, false, List, Option, Some, None, if◌then◌else◌}
+use Rattle.std.specs.Prelude.{◌++◌, ◌∷◌, [], ℕ, List, Option, Some, None, if◌then◌else◌}
 use Rattle.std.specs.List.{flat_map}
 use Rattle.j39_faults.specs.Changes.{change_since, clearing_by}
 use Rattle.j39_faults.specs.Conversions.{codes_by, version_for}
@@ -10,17 +10,16 @@ use Rattle.j39_faults.specs.declared.code.Code.{Code}
 use Rattle.j39_faults.specs.declared.conversion.Conversion.{Conversion}
 use Rattle.j39_faults.specs.declared.conversion.Version.{Version}
 use Rattle.j39_faults.specs.declared.kind.Kind.{Kind}
-use Rattle.j39_faults.specs.declared.kind.Kind.TheVariants.{Active}
 use Rattle.j39_faults.specs.declared.lamps.Lamps.{Lamps}
 use Rattle.j39_faults.specs.declared.text.State.TheVariants.{Became}
 use Rattle.j39_listen.specs.Heard.{Hearing}
 use Rattle.j39_fault_reports.specs.Faults.{Fault, fault_of}
-use Rattle.j39_fault_reports.specs.News.{goes_on, last_from}
+use Rattle.j39_fault_reports.specs.Spoken.{active_among, is_active, sent_before, spoken_in}
 
--- what the message before said, if it may be of who speaks now; else nothing
-abbrev pub bytes_before : Option Hearing → Option ℕ → List ℕ
-bytes_before None name = []
-bytes_before (Some before) name = if goes_on before.name name then before.message.bytes else []
+-- what the last of these says
+abbrev pub last_bytes : List Hearing → List ℕ
+last_bytes [] = []
+last_bytes (m ∷ ms) = m.message.bytes
 
 -- what became of a code, if anything did
 abbrev pub became : Hearing → Lamps → Code → Option Change → List Fault
@@ -34,18 +33,13 @@ changes_by version before m lamps =
     flat_map (λ code. became m lamps code (change_since (codes_by version before) code)) (codes_by version m.message.bytes)
     ++ flat_map (λ code. became m lamps code (clearing_by (codes_by version m.message.bytes) code)) (codes_by version before)
 
--- in DM1
-abbrev pub is_active : Kind → Bool
-is_active Active = true
-is_active kind = false
-
 abbrev pub changes_of : Option Version → List ℕ → Hearing → Option Kind → Option Lamps → List Fault
 changes_of version before m None lamps = []
 changes_of version before m (Some kind) None = []
 changes_of version before m (Some kind) (Some lamps) = if is_active kind then changes_by version before m lamps else []
 
--- behind these messages
+-- in DM1, behind these messages: since what its controller said before
 abbrev pub changes_in : List Conversion → List Hearing → Hearing → List Fault
 changes_in conversions before m =
-    changes_of (version_for conversions m.name) (bytes_before (last_from m.message.pgn m.message.source before) m.name) m
+    changes_of (version_for conversions m.name) (last_bytes (sent_before (spoken_in (active_among before)) m)) m
     (kind_of m.message.pgn) (lamps_of m.message.bytes)

@@ -1,5 +1,5 @@
 -- The text of what the last messages of active codes name, what a run makes of the frames, and where it may want memory.
-use Rattle.std.specs.Prelude.{◌≡◌, ◌⊎◌, ◌++◌, ◌∷◌, [], true, ℕ, List, codes, count_by, filter, if◌then◌else◌, length}
+use Rattle.std.specs.Prelude.{◌≡◌, ◌⊎◌, ◌++◌, ◌∷◌, [], true, ℕ, List, codes, count_by, if◌then◌else◌, length}
 use Rattle.std.specs.List.{flat_map}
 use Rattle.j39_frame.specs.Frame.{FrameRecord}
 use Rattle.j39_faults.specs.declared.conversion.Conversion.{Conversion}
@@ -15,7 +15,8 @@ use Rattle.j39_fault_reports.specs.FaultRows.{said_columns}
 use Rattle.j39_rows.specs.Row.{dash, name_column}
 use Rattle.j39_fault_reports.specs.Faults.{Manner, names_asked}
 use Rattle.j39_rows.specs.Row.{HeadRecord, address_cell, beside_lines, in_all, number_cell, row_text, seconds, seconds_cell, utc_cell}
-use Rattle.j39_fault_reports.specs.FaultsNow.{Now, active_among, faults_now, is_active_message, is_at, lasts, now_taken}
+use Rattle.j39_fault_reports.specs.FaultsNow.{Now, faults_now, now_taken}
+use Rattle.j39_fault_reports.specs.Spoken.{active_among, is_active_message, spoken_in}
 use Rattle.j39_fault_reports.specs.News.{is_fault_group}
 
 -- the names of the columns
@@ -62,8 +63,8 @@ MakesFaultsNowIn form manner conversions which bus F output =
 abbrev pub MakesFaultsNow : Format → Manner → List Conversion → FilterRecord → Making
 MakesFaultsNow form manner conversions which = Columned now_columns form (MakesFaultsNowIn form manner conversions which)
 
--- behind the frames F a message of active codes is heard at the frame, between the moments, where none is the last of a
--- controller at its address
+-- behind the frames F a message of active codes is heard at the frame, between the moments, where no controller spoke last at its
+-- address
 pub record IsFirstActive (which : FilterRecord) (F : List FrameRecord) (frame : FrameRecord) : Type 0 where
   pub before : List Hearing
   pub are_heard : AreHeardWith is_fault_group F before
@@ -71,7 +72,7 @@ pub record IsFirstActive (which : FilterRecord) (F : List FrameRecord) (frame : 
   pub is_heard : IsHeardWith is_fault_group (F ++ frame ∷ []) (length F) message
   pub of_active : is_active_message message ≡ true
   pub now : is_in_time which (first_stamp (F ++ frame ∷ [])) message.stamp ≡ true
-  pub first : filter (is_at message.message.source) (lasts (in_time which (first_stamp (F ++ frame ∷ [])) (active_among before))) ≡ []
+  pub first : spoken_in (in_time which (first_stamp (F ++ frame ∷ [])) (active_among before)) message.message.source ≡ []
 
 -- where a message in packets is announced that needs a box, or one of active codes is the first of its address
 abbrev pub AsksForFaultsNow : FilterRecord → Wanting

@@ -27,14 +27,14 @@ use Rattle.j39_faults.specs.declared.text.State.{State}
 use Rattle.j39_fault_reports.specs.Faults.{Fault, Manner, faults_by, faults_taken, lines_in, names_asked}
 use Rattle.std.specs.Borrow.{Bor}
 use Rattle.j39_fault_reports.specs.declared.fault_news.form.Writing.{Writing}
-use Rattle.j39_fault_reports.specs.FaultChanges.{became, changes_by, is_active}
+use Rattle.j39_fault_reports.specs.FaultChanges.{became, changes_by}
 use Rattle.j39_fault_reports.specs.Told.{told_here}
 use Rattle.j39_fault_reports.specs.News.{Chosen, chosen_of, faults_among, is_fault_group, is_of_faults}
 use Rattle.j39_fault_reports.specs.FaultRun.{faults_of}
 use Rattle.j39_fault_reports.specs.FaultRows.{faults_text, said_columns}
 use Rattle.j39_rows.specs.Row.{HeadRecord, row_text}
 use Rattle.j39_fault_reports.specs.LastMessages.{LastRecord, differs, said_before}
-use Rattle.j39_fault_reports.specs.Remembered.{Remembers}
+use Rattle.j39_fault_reports.specs.Remembered.{Remembers, tells_changes}
 use Rattle.j39_fault_reports.specs.Broken.{announces_codes, broken_in, is_whole}
 use Rattle.j39_listen.specs.Counting.{one_if}
 use Rattle.j39_fault_reports.specs.declared.fault_news.announced.Announced.{Announced}
@@ -67,18 +67,13 @@ abbrev pub tells_clearing : Telling → Bool
 tells_clearing Changes = false
 tells_clearing telling = true
 
--- whether it is told what became of the codes of a message
-abbrev pub tells_changes : Telling → Kind → Bool
-tells_changes Changes kind = is_active kind
-tells_changes telling kind = false
-
 -- whether the codes of a message are told
 abbrev pub is_told : Telling → Bool → Bool
 is_told News is_news = is_news
 is_told All is_news = true
 is_told Changes is_news = false
 
--- what is told of a message of codes, behind what its address said before
+-- what is told of a message of codes, behind what was said before
 abbrev pub told_since : Telling → Option Version → Option LastRecord → Hearing → Kind → Lamps → List Fault
 told_since telling version last h kind lamps =
     if tells_changes telling kind then changes_by version (said_before last h.name) h lamps
@@ -117,7 +112,7 @@ pub record TellsFaults (form : Format) (manner : Manner) (faults : List Fault) (
 -- behind these messages between the moments this was heard, and what is told of it was written
 pub record Tells (form : Format) (manner : Manner) (which : Chosen) (first : ℕ) (last' : LastFaults) (ms : List Hearing)
     (heard : Option Hearing) (made : Made) (old new : Option (List ℕ)) : Type 0 where
-  pub remembers : Remembers last' (ms ++ in_time which.asked first (faults_among (or_none heard)))
+  pub remembers : Remembers which.telling last' (ms ++ in_time which.asked first (faults_among (or_none heard)))
   pub made_is : made ≡ made_of (added form manner which first ms heard)
   pub written : Appends old new (added form manner which first ms heard).text
 
@@ -180,7 +175,7 @@ pub record HasTold (form : Format) (s : Subject) (news : FaultNews) (F : List Fr
   pub are_heard : AreHeardWith is_fault_group F heard
   pub output_is : output ≡ faults_of form s.manner s.which (first_stamp F) (faults_among heard)
   pub hears : Hears news.listener F
-  pub remembers : Remembers news.last (in_time s.which.asked (first_stamp F) (faults_among heard))
+  pub remembers : Remembers s.which.telling news.last (in_time s.which.asked (first_stamp F) (faults_among heard))
   pub made_is : news.made ≡ made_of output
   pub announced_is : news.announced ≡ announced_in F heard
 

@@ -12,6 +12,10 @@ pub record LastRecord : Type 0 where
   pub bytes : List ℕ
   pub name : Option ℕ
 
+-- under which NAME
+abbrev pub name_of : LastRecord → Option ℕ
+name_of said = said.name
+
 -- no message has more bytes
 abbrev pub said_by : List ℕ → Option ℕ → LastRecord
 said_by bytes name = record { bytes = take 1785 bytes; name = name }

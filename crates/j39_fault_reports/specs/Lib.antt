@@ -12,6 +12,9 @@ pub mod Broken
 pub mod LastMessages
 pub mod Remembered
 pub mod FaultsSoFar
+-- the messages of a controller, one behind the other
+pub mod Spoken
+pub mod Places
 -- the faults that are there now: which, their text, and what a run makes of the frames
 pub mod FaultsNow
 pub mod FaultsNowRun

@@ -1,15 +1,17 @@
 -- Which frame others exchange makes no difference to any answer, whatever comes later.
-use Rattle.j39_node.proofs.Common.{[], if◌then◌else◌, ◌&&◌, ◌*◌, ◌++◌, ◌+◌, ◌-◌, ◌||◌, ◌↔◌, ◌∙◌, ◌∷◌, ◌≡◌, ◌≢◌, accepted, Acknowledge, acknowledged, acknowledgment, Address, address_after, AddressLost, Again, age, announces, another_news, AnotherAtAddress, ap, AreAnswered, arith, Ask, ask_end, Asked, asked, AskEnding, At, begun, blank, Bool, Broadcast, broadcast_end, broadcast_from, broadcasts, by, Call, called, calls_for_claim, can_ask, can_broadcast, can_send, can_transfer, claim_address, claim_from, claim_of, claimed, claimed_again, clock, comes, control_of, delayed, destination_of, double, doubled_news, drop, due, end_at, end_of, ended, Ending, false, first, FrameRecord, fresh, got, handed, has_place, has_token, Hear, heard_at, heard_by, hears_if, held_then, holder, holds, holds_back, in_session, is_acknowledgment, is_another, is_apart, is_asking, is_claim, is_coming, is_engaged, is_for_program, is_held, is_left, is_lost, is_message, is_open, is_packet, is_refusal_due, is_replaced, is_reply, is_session, is_smaller, is_that, is_there, is_transfer, IsAnswered, IsAside, joined, kept, later, latest, leaves, left, length, List, Lost, lost_news, made, made_of, marks, max, may_go, Message, message_from, message_of, MessageRecord, MessagesMissed, missed_news, moment, NameDoubled, nat_eq, nat_le, nat_lt, news_of, None, not, of_other, Ok, older, open_ask, open_broadcast, open_transfer, OpenBroadcast, Option, option_map, option_or, owes_claim, packet_by, packets, packs, past, patience, pause, pgn_of, ps_of, Question, question, reached, Ready, Reception, reception, refl, ReleaseBroadcast, released_by, ReleaseTransfer, Renew, request_for, requests, rest, Resting, resting, rests_after, Running, Send, sends_if, silent_end, slice_get, slice_set, Some, source_of, stamped, step, still, subst, suc, sym, TakeAskEnded, TakeBroadcastEnded, TakeEnded, TakeFrame, taken_by, TakeNews, TakeReceived, TakeRequest, TakeTransferEnded, Tick, ticked, time_heard, told, Transfer, transfer_by, transfer_end, transfers, transport_control_group, true, turn_frame, turn_of, turns, unheard_news, wait, Who, whole_by, with_refusal, with_request, Withdraw, yields, ℕ, and-false, or-false, false_from_ne_true, found_in, hears_in, is_any, is_unheard_in, Listening, listening, made_in, over_by, staying, those_over, Calling, called_for, calls_whom, waned, taken_whom}
+use Rattle.j39_node.proofs.Common.{all_replies, events, [], accepted, Acknowledge, acknowledged, acknowledgment, Address, address_after, AddressLost, Again, age, all_replies, and-false, announces, another_news, AnotherAtAddress, ap, AreAnswered, arith, Ask, ask_end, Asked, asked, AskEnding, At, begun, blank, Bool, Broadcast, broadcast_end, broadcast_from, broadcasts, by, Call, called, called_for, Calling, calls_for_claim, calls_whom, can_ask, can_broadcast, can_send, can_transfer, claim_address, claim_from, claim_of, claimed, claimed_again, clock, comes, control_of, delayed, destination_of, double, doubled_news, drop, due, end_at, end_of, ended, Ending, events, false, false_from_ne_true, first, found_in, FrameRecord, fresh, got, handed, has_token, Hear, heard_at, hears_if, hears_in, held_then, holder, holds, holds_back, if_heard, if◌then◌else◌, is_acknowledgment, is_another, is_any, is_apart, is_asking, is_claim, is_coming, is_engaged, is_for_program, is_held, is_left, is_lost, is_message, is_open, is_packet, is_refusal_due, is_replaced, is_reply, is_session, is_smaller, is_that, is_there, is_transfer, is_unheard_in, IsAnswered, IsAside, joined, kept, later, latest, leaves, length, List, Listening, listening, Lost, lost_news, made, made_in, made_in_sessions, made_of, marks, max, may_go, Message, message_from, message_of, MessageRecord, MessagesMissed, missed_news, moment, NameDoubled, nat_eq, nat_le, nat_lt, news_of, None, not, of_other, Ok, older, open_ask, open_broadcast, open_transfer, OpenBroadcast, Option, option_map, option_or, or-false, over_by, owes_claim, packet_by, packets, packs, past, patience, pause, pgn_of, ps_of, Question, question, reached, Ready, reception, refl, ReleaseBroadcast, ReleaseTransfer, Renew, replies_of, request_for, requests, rest, Resting, resting, rests_after, Running, Send, sends_if, SessionsRecord, silent_end, slice_get, slice_set, Some, source_of, stamped, staying, step, subst, suc, sym, TakeAskEnded, TakeBroadcastEnded, TakeEnded, TakeFrame, taken_whom, TakeNews, TakeReceived, TakeRequest, takes_in, TakeTransferEnded, those_over, Tick, time_heard, told, Transfer, transfer_by, transfer_end, transfers, transport_control_group, true, turn_frame, turn_of, turns, unheard_news, wait, waned, Who, with_refusal, with_request, Withdraw, yields, ℕ, ◌&&◌, ◌*◌, ◌++◌, ◌+◌, ◌-◌, ◌||◌, ◌↔◌, ◌∙◌, ◌∷◌, ◌≡◌, ◌≢◌}
 use Rattle.j39_transport.specs.Frames as frames
 use Rattle.j39_transport.proofs.FrameFacts.{announcement_facts}
 use Rattle.j39_node.proofs.AnswerCases.{answer_by}
 use Rattle.j39_node.proofs.HearingLaws as hearing_laws
 use Rattle.j39_node.proofs.ListenLemmas.{unequal, unheard_by_kind}
 use Rattle.j39_node.proofs.PacketsAnswer.{packs_to_all}
-use Rattle.j39_node.proofs.ReceptionLaws.{goes_there, to_others}
+use Rattle.j39_node.proofs.ReceptionLaws.{to_others}
+use Rattle.j39_node.proofs.PacketLemmas.{goes_there}
+use Rattle.j39_sessions.specs.Sessions.{releases, ticks as sessions_tick}
 use Rattle.j39_node.proofs.RequestStrangers.{to_another}
 use Rattle.j39_node.proofs.StrangerLaws.{open_stays}
-use Rattle.j39_node.proofs.ReceptionLemmas.{unclaimed_known}
+use Rattle.j39_node.proofs.ReceptionLemmas.{taken_from, taken_in, taken_is_from, unclaimed_known}
 use Rattle.j39_node.proofs.PromptLaws.{answered_from as before}
 
 -- ---- all that an answer hangs on
@@ -45,7 +47,7 @@ record State : Type 0 where
   pub time : ℕ
   pub holder : ℕ → Option ℕ
   pub called : Calling
-  pub reception : Reception
+  pub reception : SessionsRecord
   pub hearing : Listening
   pub ask : Option Question
   pub wait : ℕ
@@ -116,10 +118,10 @@ passes now s = record s {
 
 -- an answer is coming
 abbrev comes_at : ℕ → State → Bool
-comes_at time s = is_coming time s.ask (in_session s.reception.session) s.hearing.current
+comes_at time s = is_coming time s.ask s.reception.sessions s.hearing.current
 
 -- the address is lost or held, the time, who holds what, the broadcasts that end, and those that are found
-abbrev hears_with : Who → ℕ → FrameRecord → Address → Bool → ℕ → (ℕ → Option ℕ) → List OpenBroadcast → Listening → Reception → State → State
+abbrev hears_with : Who → ℕ → FrameRecord → Address → Bool → ℕ → (ℕ → Option ℕ) → List OpenBroadcast → Listening → SessionsRecord → State → State
 hears_with w when f a held time holds ends found r s = record (passes when s) {
   address = a;
   owes = s.owes || (calls_for_claim w (is_lost s.address) f || (is_another w held f && nat_eq (s.patience - (when - s.moment)) 0));
@@ -141,12 +143,12 @@ hears_with w when f a held time holds ends found r s = record (passes when s) {
   time = time;
   called = called_for 1250000 (calls_whom s.holder f (claim_of f)) (waned (when - s.heard_at) s.called);
   holder = holds;
-  reception = heard_by w.address (is_smaller w (claim_of f)) held f time r;
+  reception = takes_in (is_smaller w (claim_of f)) held time (holds (source_of f.id)) f r;
   hearing = hears_in w.boxes w (holds (source_of f.id)) time f found;
   ended =
       first s.ended
       (end_at w s.ask (s.reached) (s.wait - (when - s.moment)) (comes_at time s) (is_lost a) f
-      (option_or (made_of (whole_by w.address (is_smaller w (claim_of f)) held f time r))
+      (option_or (made_of (if_heard (is_smaller w (claim_of f)) held (made_in_sessions time f r)))
       (made_of (option_map (λ (x : ℕ × MessageRecord). x.1) (made_in w.boxes w (holds (source_of f.id)) time f found)))));
   transfer = hears_if (is_lost a) (λ b. is_replaced (s.holder b) (holds b)) f (clock (s.age + (when - s.moment))) s.transfer;
 }
@@ -157,14 +159,14 @@ heard w when f s =
     let gone : Option ℕ = claimed_again s.holder (waned (when - s.heard_at) s.called) (claim_of f) in
     hears_with w when f (if is_smaller w (claim_of f) then Lost else older (when - s.moment) s.address) (is_held (older (when - s.moment) s.address))
     (later s.time (when - s.heard_at)) holds (those_over gone holds (later s.time (when - s.heard_at)) s.hearing.current)
-    (staying gone holds (later s.time (when - s.heard_at)) s.hearing) (left (leaves (still gone s.holder) holds s.reception.session) s.reception) s
+    (staying gone holds (later s.time (when - s.heard_at)) s.hearing) (leaves gone holds s.reception) s
 
 abbrev takes_with : ℕ → FrameRecord → (ℕ → Option ℕ) → State → State
 takes_with now f holds s = record (passes now s) {
   address = if is_claim f then claimed (older (now - s.moment) s.address) else older (now - s.moment) s.address;
   owes = if is_claim f then false else s.owes;
   turns = if is_claim f || is_acknowledgment f then suc s.turns else 0;
-  yields = if is_claim f || is_acknowledgment f then s.yields else is_reply s.reception.replies f;
+  yields = if is_claim f || is_acknowledgment f then s.yields else is_reply (replies_of s.reception) f;
   reached = if is_claim f || (is_acknowledgment f || is_session f) then s.reached else past s.marks (suc s.reached);
   packets = if is_packet f then s.packets ++ message_of f ∷ [] else s.packets;
   pause = if is_packet f then 150000 else s.pause - (now - s.moment);
@@ -172,10 +174,10 @@ takes_with now f holds s = record (passes now s) {
   wait = if is_message f && has_token s.ask (s.reached) then 1250000 else s.wait - (now - s.moment);
   called = called_for (1250000 + (now - s.heard_at)) (taken_whom (is_claim f) (is_message f) f) s.called;
   holder = holds;
-  reception = taken_by (is_claim f) (is_reply s.reception.replies f) (leaves s.holder holds s.reception.session) s.reception;
+  reception = taken_from (is_claim f) (is_reply (replies_of s.reception) f) holds s.reception;
   unheard = (is_any (if is_claim f then those_over None holds s.time s.hearing.current else []) || false) || s.unheard;
   hearing = if is_claim f then staying None holds s.time s.hearing else s.hearing;
-  transfer = sends_if (is_transfer f && not (is_that (message_of f) (slice_get s.reception.replies 0))) (clock (s.age + (now - s.moment))) s.transfer;
+  transfer = sends_if (is_transfer f && not (is_that (message_of f) (slice_get (replies_of s.reception) 0))) (clock (s.age + (now - s.moment))) s.transfer;
 }
 
 abbrev next : Who → Call → State → State
@@ -185,7 +187,7 @@ next w (At now Tick) s = record (passes now s) {
   heard_at = now;
   called = waned (now - s.heard_at) s.called;
   time = later s.time (now - s.heard_at);
-  reception = ticked w.address now (later s.time (now - s.heard_at)) s.reception;
+  reception = sessions_tick (later s.time (now - s.heard_at)) s.reception;
   unheard = (is_any (those_over None s.holder (later s.time (now - s.heard_at)) s.hearing.current) || false) || s.unheard;
   hearing = staying None s.holder (later s.time (now - s.heard_at)) s.hearing;
 }
@@ -229,7 +231,7 @@ next w (TakeTransferEnded (Some x)) s = record s {
   resting = if rests_after x.1 then joined s.rest s.resting s.transfer else s.resting;
 }
 next w (TakeAskEnded (Some x)) s = record s { ask = None }
-next w (ReleaseTransfer b) s = record s { reception = released_by b s.reception }
+next w (ReleaseTransfer true) s = record s { reception = releases s.reception }
 next w (ReleaseBroadcast true) s = record s { hearing = record { current = s.hearing.current; waits = drop 1 s.hearing.waits } }
 next w (At now act) s = passes now s
 next w call s = s
@@ -254,6 +256,10 @@ state_is w (TakeBroadcastEnded None) H = refl
 state_is w (TakeTransferEnded None) H = refl
 state_is w (TakeAskEnded None) H = refl
 state_is w (ReleaseBroadcast false) H = refl
+state_is w (At when (Hear f)) H = λ i. record (next w (At when (Hear f)) (state w H)) { reception = sym (taken_in w H when f (is_smaller w (claim_of f)) (holds w H when)) i }
+state_is w (At now (TakeFrame (Some f))) H = λ i. record (next w (At now (TakeFrame (Some f))) (state w H))
+    { reception = taken_is_from w (events w H) (holder w (At now (TakeFrame (Some f)) ∷ H)) (is_claim f) (is_reply (all_replies w H) f) i }
+state_is w (ReleaseTransfer false) H = refl
 state_is w call H = refl
 
 -- ---- the answers hang on nothing else
@@ -267,12 +273,12 @@ frame_by w s now =
     let transfer = transfer_by s.transfer (clock (s.age + (now - s.moment))) in
     let due : Ready = record {
       overdue = is_left s.broadcast (length s.packets) && nat_eq left 0;
-      reply = nat_lt 0 (length s.reception.replies);
+      reply = nat_lt 0 (length (replies_of s.reception));
       message = nat_lt (s.reached) (length s.accepted);
       packet = is_left s.broadcast (length s.packets) && nat_le left 100000;
-      transfer = is_apart transfer (slice_get s.reception.replies 0);
+      transfer = is_apart transfer (slice_get (replies_of s.reception) 0);
     } in
-    let others = turn_frame (turn_of s.yields due) (slice_get s.reception.replies 0) (slice_get s.accepted (s.reached))
+    let others = turn_frame (turn_of s.yields due) (slice_get (replies_of s.reception) 0) (slice_get s.accepted (s.reached))
     (packet_by s.broadcast (length s.packets) left) transfer in
     let gives = nat_le 2 s.turns && is_there (if holds_at s now then others else None) in
     if (s.owes && (not (is_lost s.address) || nat_eq (s.delay - (now - s.moment)) 0)) && not gives then Some (now, claim_from w (claim_address w s.address))
@@ -297,7 +303,7 @@ Answers w s (At now (Acknowledge r answer result)) =
 Answers w s (At now (Broadcast group bytes answer)) =
     answer ≡ answer_by (holds_at s now) (can_broadcast group bytes) (is_open s.broadcast || nat_eq (length s.broadcasts) 18446744073709551615) (length s.broadcasts)
 Answers w s (TakeBroadcastEnded answer) = answer ≡ broadcast_end s.broadcast (length s.packets) (is_lost s.address)
-Answers w s (ReleaseTransfer answer) = answer ≡ not (has_place s.reception.waits)
+Answers w s (ReleaseTransfer answer) = answer ≡ nat_lt 0 (length s.reception.waits)
 Answers w s (At now (Transfer group to bytes answer)) =
     answer ≡ answer_by (holds_at s now) (can_transfer w group to bytes)
     (is_engaged s.transfer (length s.transfers) || (nat_lt 0 (s.rest - (now - s.moment)) && holds_back s.resting group to)) (length s.transfers)
@@ -407,7 +413,7 @@ module _ (w : Who) (f : FrameRecord) (a : IsAside w f) where
         unheard = unheard i;
         called = quiets i;
         holder = λ b. held_then b (of_other w (a.claims i)) (holder w H b);
-        reception = (to_others w H when f mine (λ r z. unclaimed_known w H when f r.message.source a.claims) (elsewhere w.address a.not_here)) i;
+        reception = (to_others w H when f mine (λ b x z. unclaimed_known w H when f b a.claims) (elsewhere w.address a.not_here)) i;
         hearing = hearing_laws.strangers w H when f a.claims unannounced unpacked i;
         ended = ends i;
         transfer = open_stays w H when f right a.claims (elsewhere w.address a.not_here) i;

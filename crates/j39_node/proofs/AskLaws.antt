@@ -1,5 +1,5 @@
 -- The laws of requests.
-use Rattle.j39_node.proofs.Common.{Acknowledged, Answered, AreAnswered, Ask, AskEnding, AskedSince, At, Bool, Call, Controller, FrameRecord, Hear, HeardFirst, Is, IsAnswered, IsTrue, List, None, NoneEnds, Ok, Option, Question, RanOut, Refused, Result, Some, TakeAskEnded, TakeFrame, TimedOut, Who, Withdraw, [], accepted, address_after, and_parts, answer_to_ask, ap, arith, ask_end, asks, can_ask, comes, end_at, ended, eqb-true, false, first, has_token, holds, if◌then◌else◌, inl, inr, is_acknowledgment, is_answer, is_asking, is_claim, is_full, is_lost, is_message, is_request, is_session, kept, later, left, length, lost, made, marks, message_from, moment, nat_eq, nat_lt, not, not-true, not_both, open_ask, passed_in, past, question, reached, reaches, refl, request_for, says, says_to, seeks, silent, silent_end, slice_get, slice_set, step, subst, suc, sym, time_heard, told, told_asks, true, wait, ℕ, ◌&&◌, ◌++◌, ◌+◌, ◌-◌, ◌<◌, ◌||◌, ◌∙◌, ◌∷◌, ◌≡◌, ◌⊎◌, IfSome, le-ltb, lt-ltb, same_Some, or_parts, cases_Bool}
+use Rattle.j39_node.proofs.Common.{[], accepted, Acknowledged, address_after, and_parts, answer_to_ask, Answered, ap, AreAnswered, arith, Ask, ask_end, AskedSince, AskEnding, asks, At, Bool, Call, can_ask, cases_Bool, comes, Controller, end_at, ended, eqb-true, false, first, FrameRecord, has_token, Hear, HeardFirst, holds, IfSome, if◌then◌else◌, inl, inr, Is, is_acknowledgment, is_answer, is_asking, is_claim, is_full, is_lost, is_message, is_request, is_session, IsAnswered, IsTrue, kept, later, le-ltb, length, List, lost, lt-ltb, made, marks, message_from, moment, nat_eq, nat_lt, None, NoneEnds, not, not-true, not_both, Ok, open_ask, Option, or_parts, passed_in, past, Question, question, RanOut, reached, reaches, refl, Refused, request_for, Result, same_Some, says, says_to, seeks, silent, silent_end, slice_get, slice_set, Some, step, subst, suc, sym, TakeAskEnded, TakeFrame, time_heard, TimedOut, told, told_asks, true, wait, Who, Withdraw, ℕ, ◌&&◌, ◌++◌, ◌+◌, ◌-◌, ◌<◌, ◌||◌, ◌∙◌, ◌∷◌, ◌≡◌, ◌⊎◌}
 use Rattle.j39_node.specs.declared.kinds.AskEnding.TheVariants.{Withdrawn}
 use Rattle.j39_node.specs.Asking.{is_reply, is_taken, said_by}
 use Rattle.j39_node.proofs.WithdrawLemmas.{get_front, unpassed}

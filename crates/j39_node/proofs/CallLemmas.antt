@@ -2,7 +2,7 @@
 use Rattle.std.proofs.lemmas.Grind.{common_steps}
 use Rattle.j39_node.proofs.KindLemmas.{Kind, kind, kind_by, kind_is, single}
 use Rattle.j39_node.proofs.SoundLemmas.FrameCase.{claims as claims_first, acknowledges, replies, sends, packs, transfers}
-use Rattle.j39_node.proofs.Common.{Address, AreAnswered, AskRecord, Asked, At, Bool, Call, Claims, Controller, Done, Draft, Due, Ending, FrameRecord, Hear, Hold, IfSome, Incoming, IncomingRecord, Is, IsAnswered, IsApart, IsOthers, Knows, List, Lost, Message, Move, None, Option, Outgoing, Ready, Renew, Renews, Reply, Said, Single, Some, TakeEnded, TakeFrame, Untold, View, Who, Withdraw, Withdrawn, [], accepted, acknowledged, address_after, after, age, all_transfers, ap, arith, asked_by, asking_of, at_in, blank, called, calls, can_claim, can_send, claim_address, claim_due, claim_from, claim_goes, claim_of, claimed, claims, clock, clock_at, comes, counted, delayed, drop, drop-map, due, end_of, ended, ending_of, false, first, gives_way, got, has_packets, has_token, heard_at, heard_by, hearing_after, hearing_of, held_at, hold_acknowledged, hold_after, hold_asked, hold_claimed, hold_spoken, hold_went, holder, holder_in, holds, holds_back, if◌then◌else◌, in_session, incoming_after, incoming_of, inl, inr, is_apart, is_asking, is_blank, is_busy, is_claim, is_coming, is_engaged, is_for_program, is_full, is_held, is_left, is_lost, is_open, is_resting, is_served, is_smaller, is_there, is_turn, kept, known, lane_after, lane_of, latest, le-ltb, leaves, leb-true, led, left, left_at, length, length-drop, length-set, less, lost, lt-ltb, ltb-false, ltb-true, map, marks, max, may_claim, may_go, message_from, message_of, min, missed_news, moment, more, nat_eq, nat_le, nat_lt, news_after, next_acknowledgment, next_due, next_frame, next_packet, next_renewed, next_transfer, next_transfer_ended, next_turn, next_withdrawn, not, nothing, offered, older, open_ask, open_transfer, option_map, other, owes_claim, packet_by, packets, packets_in, passed, past, pause, paused, place_of, port_after, port_of, posted, reached, ready_in, reception, refl, refusal_by, resting_by, said_by, senders, sends_if, slice_get, slice_get_past, slice_get_within, slice_set, sooner, source_of, stamp_at, stamped, standing_of, stands, step, subst, suc, sym, taken_by, those_over, time_heard, told, told_claims, transfer_by, transfer_end, transfer_in, true, turn_frame, turn_of, turns, unclaimed, unclaims, unheard_news, view, wait, who_of, with_called, with_reception, with_refusal, with_replies, with_request, yields, ℕ, ◌&&◌, ◌++◌, ◌+◌, ◌-◌, ◌<◌, ◌||◌, ◌∙◌, ◌∷◌, ◌≡◌, ◌≤◌, map-append, length-map, drop-append-le, cond_some, called_for, taken_whom, waned, asked_whom}
+use Rattle.j39_node.proofs.Common.{made_of, whole, MessageRecord, [], accepted, acknowledged, Address, address_after, after, age, all_replies, all_transfers, ap, AreAnswered, arith, Asked, asked_by, asked_whom, asking_of, AskRecord, At, at_in, blank, Bool, Call, called, called_for, calls, can_claim, can_send, claim_address, claim_due, claim_from, claim_goes, claim_of, claimed, Claims, claims, clock, clock_at, comes, cond_some, Controller, counted, delayed, Done, Draft, drop, drop-append-le, drop-map, Due, due, end_of, ended, Ending, ending_of, events, false, first, found_by_frame, FrameRecord, gives_way, got, has_packets, has_token, Hear, heard_at, hearing_after, hearing_of, held_at, Hold, hold_acknowledged, hold_after, hold_asked, hold_claimed, hold_spoken, hold_went, holder, holder_in, holds, holds_back, if_heard, IfSome, if◌then◌else◌, Incoming, incoming_after, incoming_of, inl, inr, Is, is_apart, is_asking, is_blank, is_busy, is_claim, is_coming, is_engaged, is_for_program, is_full, is_held, is_left, is_lost, is_open, is_resting, is_served, is_smaller, is_there, is_turn, IsAnswered, IsOthers, kept, Knows, lane_after, lane_of, latest, le-ltb, leaves, leb-true, led, left_at, length, length-drop, length-map, length-set, less, List, Lost, lost, lt-ltb, ltb-false, ltb-true, made_in_sessions, map, map-append, marks, max, may_claim, may_go, Message, message_from, message_of, min, missed_news, moment, more, Move, nat_eq, nat_le, nat_lt, news_after, next_acknowledgment, next_due, next_frame, next_packet, next_renewed, next_transfer, next_transfer_ended, next_turn, next_withdrawn, None, not, nothing, offered, older, open_ask, open_transfer, Option, option_map, other, Outgoing, owes_claim, packet_by, packets, packets_in, passed, past, pause, paused, place_of, port_after, port_of, posted, reached, Ready, ready_in, refl, refusal_by, Renew, Renews, replies_of, Reply, resting_by, senders, sends_if, sessions_after, Single, slice_get, slice_get_past, slice_get_within, slice_set, Some, sooner, source_of, stamp_at, stamped, standing_of, stands, step, subst, suc, sym, TakeEnded, TakeFrame, taken_by, taken_whom, those_over, time_heard, told, told_claims, transfer_by, transfer_end, transfer_in, true, turn_frame, turn_of, turns, unclaimed, unclaims, unheard_news, Untold, View, view, wait, Who, who_of, with_called, with_reception, with_refusal, with_request, Withdraw, Withdrawn, yields, ℕ, ◌&&◌, ◌++◌, ◌+◌, ◌-◌, ◌<◌, ◌||◌, ◌∙◌, ◌∷◌, ◌≡◌, ◌≤◌, passed_to, later}
 use Rattle.j39_node.specs.Boxes.{in_box}
 use Rattle.j39_node.specs.Is.{leaving}
 use Rattle.j39_node.specs.Reception.{is_waiting}
@@ -12,7 +12,8 @@ use Rattle.j39_node.specs.declared.turn.Turn.TheVariants.{Packet}
 use Rattle.j39_node.proofs.WithdrawLemmas.{past_rest}
 use Rattle.j39_node.specs.declared.hold.Standing.TheVariants as standing
 use Rattle.j39_node.proofs.AskLemmas.{asking_is, ask_more, takes, token_of, ask_withdrawn}
-use Rattle.j39_node.proofs.ReceptionLemmas.{leaves_is, tidy, calls_is, leaves_still}
+use Rattle.j39_node.proofs.ReceptionLemmas.{holders_are, taken_in}
+use Rattle.j39_sessions.specs.Sessions.{says as sessions_say}
 use Rattle.j39_node.proofs.HearingLemmas.{claimed_on, claimed_says, hearing_same, news_same}
 use Rattle.j39_node.proofs.QueueLemmas.{length_one_more, length_rest, First, get_at, get_map, get_of_drop, rest_at, mapped_none}
 use Rattle.j39_node.proofs.SoundLemmas.{FrameCase, case_goes, next_is, IsTurn, frame_there, packet_there, some_at, turn_is, sound, held_not_lost, holding_not_lost, lost_older, Sound, withdraw_case, acknowledged_is_due, not_there, other_is}
@@ -82,12 +83,10 @@ framed w H now f k =
       asking = asked_by (open_ask H) n (ended w H);
       acknowledgments = drop (length (if k.claim || not k.acknowledgment then acknowledged H else acknowledged H ++ message_of f ∷ [])) (due w H);
       lane = record (lane_after w H) { count = length (if k.packet then packets H ++ message_of f ∷ [] else packets H) };
-      incoming =
-          let r = taken_by k.claim k.reply (leaves (holder w H) (holder w G) (reception w H).session) (reception w H) in
-          record (incoming_after w H) {
-            called = called_for (1250000 + (now - heard_at H)) (taken_whom k.claim (not (k.claim || (k.acknowledgment || k.session))) f) (called w H);
-            reception = r;
-          };
+      incoming = record (incoming_after w H) {
+        called = called_for (1250000 + (now - heard_at H)) (taken_whom k.claim (not (k.claim || (k.acknowledgment || k.session))) f) (called w H);
+        reception = sessions_after w (taken_by k.claim k.reply (holder w G) (events w H));
+      };
       port = record (port_after w H) { current = sends_if k.move (clock_at H now) (open_transfer w H) };
     }
 
@@ -104,11 +103,11 @@ frames {w} {H} {old} {new} {now} {f} c h e n v =
 
 -- ---- what is received in packets
 
-pub replies_is : (w : Who) (H : List Call) (c : Controller) → Is w H c → map (said_by c.incoming.receiver.state.own) c.incoming.replies.items ≡ (reception w H).replies
-replies_is w H c h = ap (λ (v : View). v.incoming.reception.replies) h.shown
+pub replies_is : (w : Who) (H : List Call) (c : Controller) → Is w H c → replies_of (incoming_of c.incoming).reception ≡ all_replies w H
+replies_is w H c h = ap (λ (v : View). replies_of v.incoming.reception) h.shown
 
-replies_length : (w : Who) (H : List Call) (c : Controller) → Is w H c → length c.incoming.replies.items ≡ length (reception w H).replies
-replies_length w H c h = sym (length-map c.incoming.replies.items (said_by c.incoming.receiver.state.own)) ∙ ap length (replies_is w H c h)
+replies_length : (w : Who) (H : List Call) (c : Controller) → Is w H c → length (replies_of (incoming_of c.incoming).reception) ≡ length (all_replies w H)
+replies_length w H c h = ap length (replies_is w H c h)
 
 told_is : (w : Who) (H : List Call) (now : ℕ) (f : FrameRecord) → is_claim f ≡ true → told_claims w (At now (TakeFrame (Some f)) ∷ H) ≡ told_claims w H ++ f ∷ []
 told_is w H now f e = ap (λ (b : Bool). if b then told_claims w H ++ f ∷ [] else told_claims w H) e
@@ -117,30 +116,38 @@ told_is w H now f e = ap (λ (b : Bool). if b then told_claims w H ++ f ∷ [] e
 incoming_claimed : (w : Who) (H : List Call) (old : Controller) (now : ℕ) (f : FrameRecord) (a : ℕ) (table : Claims) → Is w H old → a ≡ source_of f.id → kind w H f ≡ single true false
     → Knows table (told_claims w (At now (TakeFrame (Some f)) ∷ H))
     → with_called (called_for (1250000 + (now - (incoming_of old.incoming).moment)) (Some a) (incoming_of old.incoming).called)
-    (with_reception (left (leaves (holder_in old.holders) (holder_in table) (incoming_of old.incoming).reception.session) (incoming_of old.incoming).reception) (incoming_of old.incoming))
+    (with_reception (leaves None (holder_in table) (incoming_of old.incoming).reception) (incoming_of old.incoming))
     ≡ incoming_after w (At now (TakeFrame (Some f)) ∷ H)
 incoming_claimed w H old now f a table h at is knows =
-    (λ i. let x = (h.shown i).incoming in with_called (called_for (1250000 + (now - x.moment)) (Some (at i)) x.called) (with_reception (left (leaves (holder_in old.holders) (holder_in table) x.reception.session) x.reception) x))
-    ∙ (ap (λ (b : Bool). with_called (called_for (1250000 + (now - heard_at H)) (Some (source_of f.id)) (called w H)) (with_reception (left b (reception w H)) (incoming_after w H)))
-    (leaves_is w old.holders table H (At now (TakeFrame (Some f)) ∷ H) (reception w H).session h.holders knows)
-    ∙ sym (ap (λ (k : Kind). (framed w H now f k).incoming) is))
+    (λ i. let x = (h.shown i).incoming in with_called (called_for (1250000 + (now - x.moment)) (Some (at i)) x.called)
+    (with_reception (leaves None (holders_are w (At now (TakeFrame (Some f)) ∷ H) table knows i) x.reception) x))
+    ∙ sym (ap (λ (k : Kind). (framed w H now f k).incoming) is)
 
 -- a frame is heard
 pub incoming_heard : (w : Who) (H : List Call) (old : Controller) (when : ℕ) (f : FrameRecord) (table : Claims) (new : Incoming) (gone held : Bool) → Is w H old
     → Knows table (told_claims w (At when (Hear f) ∷ H)) → gone ≡ is_smaller w (claim_of f) → held ≡ holds w H when
-    → (old.incoming.receiver.has_box ≡ true → IsApart (incoming_of old.incoming).reception
-    → incoming_of new ≡ hears gone held when f (holder_in old.holders) (holder_in table) (incoming_of old.incoming))
+    → incoming_of new ≡ hears gone held when f (holder_in old.holders) (holder_in table) (incoming_of old.incoming)
     → incoming_of new ≡ incoming_after w (At when (Hear f) ∷ H)
 incoming_heard w H old when f table new gone held h knows away stays does =
-    does (ap (λ (v : View). v.incoming.has_box) h.shown) (subst (λ (x : IncomingRecord). IsApart x.reception) (sym (ap (λ (v : View). v.incoming) h.shown)) (tidy w H).apart)
-    ∙ (ap (hears gone held when f (holder_in old.holders) (holder_in table)) (ap (λ (v : View). v.incoming) h.shown)
-    ∙ ((λ i. with_called (called_for 1250000 (calls_is w old.holders H f (claim_of f) h.holders i) (waned (when - heard_at H) (called w H)))
-    (with_reception (heard_by w.address gone held f (time_heard (At when (Hear f) ∷ H)) (left (leaves_still w old.holders table H when f (reception w H).session h.holders knows i) (reception w H))) (incoming_now w H when f)))
-    ∙ λ i. with_called (called w (At when (Hear f) ∷ H)) (with_reception (heard_by w.address (away i) (stays i) f (time_heard (At when (Hear f) ∷ H))
-    (left (leaves (known w H when f) (holder w (At when (Hear f) ∷ H)) (reception w H).session) (reception w H))) (incoming_now w H when f))))
+    does
+    ∙ ((λ i. hears (away i) (stays i) when f (holders_are w H old.holders h.holders i) (holders_are w (At when (Hear f) ∷ H) table knows i) (h.shown i).incoming)
+    ∙ λ i. with_called (called w (At when (Hear f) ∷ H)) (with_reception (taken_in w H when f (is_smaller w (claim_of f)) (holds w H when) i) (passed_to when (incoming_after w H))))
+
+-- and what is whole by it
+pub made_heard : (w : Who) (H : List Call) (old : Controller) (when : ℕ) (f : FrameRecord) (table : Claims) (made : Option (ℕ × ℕ)) (gone held : Bool) → Is w H old
+    → Knows table (told_claims w (At when (Hear f) ∷ H)) → gone ≡ is_smaller w (claim_of f) → held ≡ holds w H when
+    → made ≡ option_map (λ m. (m.source, m.pgn)) (if_heard gone held (made_in_sessions (later (incoming_of old.incoming).clock (when - (incoming_of old.incoming).moment)) f
+    (found_by_frame when f (holder_in old.holders) (holder_in table) (incoming_of old.incoming))))
+    → made ≡ made_of (whole w H when f)
+made_heard w H old when f table made gone held h knows away stays does =
+    does
+    ∙ ((λ i. let x = (h.shown i).incoming in option_map (λ m. (m.source, m.pgn)) (if_heard (away i) (stays i) (made_in_sessions (later x.clock (when - x.moment)) f
+    (found_by_frame when f (holders_are w H old.holders h.holders i) (holders_are w (At when (Hear f) ∷ H) table knows i) x))))
+    ∙ source_and_group (whole w H when f))
   where
-    incoming_now : Who → List Call → ℕ → FrameRecord → IncomingRecord
-    incoming_now w H when f = record { moment = when; clock = time_heard (At when (Hear f) ∷ H); own = w.address; has_box = true; called = waned (when - heard_at H) (called w H); reception = reception w H }
+    source_and_group : (o : Option MessageRecord) → option_map (λ (m : MessageRecord). (let x : ℕ × ℕ = (m.source, m.pgn) in x)) o ≡ made_of o
+    source_and_group None = refl
+    source_and_group (Some m) = refl
 
 pub transfer_next : (w : Who) (H : List Call) (c : Controller) (now time : ℕ) → Is w H c → time ≡ min (age H + step H now) 18446744073709551615
     → transfer_by (port_of c.transfers).current (clock time) ≡ next_transfer w H now
@@ -325,21 +332,31 @@ taken_due w H old new now (Some f) x mid h p owes held next first m e e0 =
       acknowledgments = (first.rest ∙ ap (λ (n : ℕ). drop n (due w H)) (sym (length_one_more (acknowledged H) (message_of f)))) i;
     })
 
-pub taken_reply : (w : Who) (H : List Call) (old new : Controller) (now : ℕ) (r : Option FrameRecord) (x : Said) (mid : Hold) → Is w H old → IsOthers w H now mid
-    → turn_of mid.yields (ready_in old mid) ≡ Some Reply → First (said_by old.incoming.receiver.state.own) new.incoming.replies.items x 0 (reception w H).replies
-    → option_map stamped r ≡ Some (now, said_by w.address x)
-    → new ≡ record old { hold = new.hold; incoming = new.incoming } → new.incoming ≡ record old.incoming { replies = new.incoming.replies } → new.hold ≡ hold_spoken mid
+reply_there : (c : Controller) (k : Hold) → turn_of k.yields (ready_in c k) ≡ Some Reply → slice_get (replies_of (incoming_of c.incoming).reception) 0 ≡ None → ⊥
+reply_there c k e = some_at (replies_of (incoming_of c.incoming).reception) 0 (subst (IsTurn k.yields (ready_in c k)) e (turn_is k.yields (ready_in c k))).0
+
+pub taken_reply : (w : Who) (H : List Call) (old new : Controller) (now : ℕ) (r : Option FrameRecord) (mid : Hold) → Is w H old → IsOthers w H now mid
+    → turn_of mid.yields (ready_in old mid) ≡ Some Reply → option_map stamped r ≡ option_map (at_now now) (slice_get (replies_of (incoming_of old.incoming).reception) 0)
+    → incoming_of new.incoming ≡ with_reception (sessions_say (incoming_of old.incoming).reception) (incoming_of old.incoming)
+    → new ≡ record old { hold = new.hold; incoming = new.incoming } → new.hold ≡ hold_spoken mid
     → Is w (At now (TakeFrame r) ∷ H) new
-taken_reply w H old new now None x mid h o turn first m e e0 e1 = absurd (cc)
-taken_reply w H old new now (Some f) x mid h o turn first m e e0 e1 =
-    let own : old.incoming.receiver.state.own ≡ w.address = ap (λ (v : View). v.incoming.own) h.shown in
-    let k : stamped f ≡ (now, said_by w.address x) = cc in
-    let at : slice_get (reception w H).replies 0 ≡ Some (said_by w.address x) = first.is ∙ ap (λ (a : ℕ). Some (said_by a x)) own in
-    frames (replies (said_by w.address x) o.owes o.held (o.none, sym (turn_next w H old now mid h o.passed o.held) ∙ turn) at k) h (ap (λ c. c.holders) e) refl
-    (ap (view w) e ∙ λ i. record (h.shown i) {
-      hold = (e1 ∙ ap hold_spoken o.passed) i;
-      incoming = (ap incoming_of e0 ∙ λ i. with_replies (first.rest i) (h.shown i).incoming) i;
-    })
+taken_reply w H old new now None mid h o turn m e0 e e1 =
+    absurd (reply_there old mid turn (none_mapped _ m))
+  where
+    none_mapped : (o : Option Message) → None ≡ option_map (at_now now) o → o ≡ None
+    none_mapped None e = refl
+    none_mapped (Some x) e = absurd (cc)
+taken_reply w H old new now (Some f) mid h o turn m e0 e e1 = go (slice_get (all_replies w H) 0) refl (m ∙ ap (λ (L : List Message). option_map (at_now now) (slice_get L 0)) (replies_is w H old h))
+  where
+    go : (x : Option Message) → slice_get (all_replies w H) 0 ≡ x → Some (stamped f) ≡ option_map (at_now now) x → Is w (At now (TakeFrame (Some f)) ∷ H) new
+    go None at k = absurd (cc)
+    go (Some x) at k =
+        let j : stamped f ≡ (now, x) = cc in
+        frames (replies x o.owes o.held (o.none, sym (turn_next w H old now mid h o.passed o.held) ∙ turn) at j) h (ap (λ c. c.holders) e) refl
+        (ap (view w) e ∙ λ i. record (h.shown i) {
+          hold = (e1 ∙ ap hold_spoken o.passed) i;
+          incoming = (e0 ∙ λ i. with_reception (sessions_say (h.shown i).incoming.reception) (h.shown i).incoming) i;
+        })
 
 -- ---- an end is told
 
@@ -447,7 +464,7 @@ news_heard u v l a b m n o x f g = x ∙ λ i. record { lost = l; another = u.an
 
 -- an answer is coming
 pub coming_is : (w : Who) (H : List Call) (c : Controller) (t time : ℕ) → Is w H c → t ≡ time
-    → is_coming t (option_map (λ (x : AskRecord). x.question) (asking_of c.asking)) (in_session (incoming_of c.incoming).reception.session) (hearing_of c.hearing).listening.current
+    → is_coming t (option_map (λ (x : AskRecord). x.question) (asking_of c.asking)) (incoming_of c.incoming).reception.sessions (hearing_of c.hearing).listening.current
     ≡ comes w H time
 coming_is w H c t time e f = grind (arith, f)
 
@@ -630,12 +647,12 @@ lt_some : (a b : ℕ) → nat_lt 0 (a - b) ≡ nat_lt b a
 lt_some a b = grind arith
 
 waits_is : (w : Who) (H : List Call) (c : Controller) → Is w H c → is_held (address_after w H) ≡ true
-    → (nat_lt c.taken (length c.outgoing.items) || (nat_lt 0 (length c.desk.due.items) || nat_lt 0 (length c.incoming.replies.items))) ≡ is_waiting w H
+    → (nat_lt c.taken (length c.outgoing.items) || (nat_lt 0 (length c.desk.due.items) || nat_lt 0 (length (replies_of (incoming_of c.incoming).reception)))) ≡ is_waiting w H
 waits_is w H c h e =
-    ap (λ (b : Bool). b || (nat_lt 0 (length c.desk.due.items) || nat_lt 0 (length c.incoming.replies.items)))
+    ap (λ (b : Bool). b || (nat_lt 0 (length c.desk.due.items) || nat_lt 0 (length (replies_of (incoming_of c.incoming).reception))))
     (sent_due w H c h (held_not_lost (address_after w H) e))
     ∙ ap (λ (b : Bool). nat_lt (reached H) (length (accepted w H)) || b)
-    (ap (λ (b : Bool). b || nat_lt 0 (length c.incoming.replies.items))
+    (ap (λ (b : Bool). b || nat_lt 0 (length (replies_of (incoming_of c.incoming).reception)))
     (ap (nat_lt 0) (length_rest (refusal_by w) c.desk.due.items (length (acknowledged H)) (due w H) (ap (λ (v : View). v.acknowledgments) h.shown)) ∙ lt_some _ _)
     ∙ ap (λ (n : ℕ). nat_lt (length (acknowledged H)) (length (due w H)) || nat_lt 0 n) (replies_length w H c h))
 
@@ -644,12 +661,12 @@ held_and a x y e = grind (arith, e)
 
 pub frame_due : (w : Who) (H : List Call) (c : Controller) → Is w H c
     → (can_claim c.hold || (stands c.hold.standing && (nat_lt c.taken (length c.outgoing.items) || (nat_lt 0 (length c.desk.due.items)
-    || nat_lt 0 (length c.incoming.replies.items)))))
+    || nat_lt 0 (length (replies_of (incoming_of c.incoming).reception))))))
     ≡ (may_claim w H (delayed w H) || (is_held (address_after w H) && is_waiting w H))
 frame_due w H c h =
-    ap (λ (v : View). can_claim v.hold || (stands v.hold.standing && (nat_lt c.taken (length c.outgoing.items) || (nat_lt 0 (length c.desk.due.items) || nat_lt 0 (length c.incoming.replies.items))))) h.shown
-    ∙ (ap (λ (b : Bool). (owes_claim w H && (not (lost (standing_of (address_after w H))) || nat_eq (delayed w H) 0)) || (b && (nat_lt c.taken (length c.outgoing.items) || (nat_lt 0 (length c.desk.due.items) || nat_lt 0 (length c.incoming.replies.items))))) (stands_is (address_after w H))
-    ∙ (ap (λ (b : Bool). (owes_claim w H && (not b || nat_eq (delayed w H) 0)) || (is_held (address_after w H) && (nat_lt c.taken (length c.outgoing.items) || (nat_lt 0 (length c.desk.due.items) || nat_lt 0 (length c.incoming.replies.items))))) (lost_is (address_after w H))
+    ap (λ (v : View). can_claim v.hold || (stands v.hold.standing && (nat_lt c.taken (length c.outgoing.items) || (nat_lt 0 (length c.desk.due.items) || nat_lt 0 (length (replies_of (incoming_of c.incoming).reception)))))) h.shown
+    ∙ (ap (λ (b : Bool). (owes_claim w H && (not (lost (standing_of (address_after w H))) || nat_eq (delayed w H) 0)) || (b && (nat_lt c.taken (length c.outgoing.items) || (nat_lt 0 (length c.desk.due.items) || nat_lt 0 (length (replies_of (incoming_of c.incoming).reception)))))) (stands_is (address_after w H))
+    ∙ (ap (λ (b : Bool). (owes_claim w H && (not b || nat_eq (delayed w H) 0)) || (is_held (address_after w H) && (nat_lt c.taken (length c.outgoing.items) || (nat_lt 0 (length c.desk.due.items) || nat_lt 0 (length (replies_of (incoming_of c.incoming).reception)))))) (lost_is (address_after w H))
     ∙ ap (λ (b : Bool). may_claim w H (delayed w H) || b) (held_and (is_held (address_after w H)) _ _ (waits_is w H c h))))
 
 pub held_at_is : (a : Address) (m : ℕ) → left_at (standing_of a) m ≡ held_at a m
@@ -687,8 +704,7 @@ pub claims_more : (w : Who) (H : List Call) (old new : Controller) (now : ℕ) (
     → Some (stamped f) ≡ Some (now, claim_from (who_of w.brought old.own) a) → a ≡ (if lost old.hold.standing then 254 else old.own.address)
     → ((F : List FrameRecord) → Knows old.holders F → Knows new.holders (F ++ f ∷ []))
     → incoming_of new.incoming ≡ with_called (called_for (1250000 + (now - (incoming_of old.incoming).moment)) (Some a) (incoming_of old.incoming).called)
-    (with_reception (left (leaves (holder_in old.holders) (holder_in new.holders) (incoming_of old.incoming).reception.session)
-    (incoming_of old.incoming).reception) (incoming_of old.incoming))
+    (with_reception (leaves None (holder_in new.holders) (incoming_of old.incoming).reception) (incoming_of old.incoming))
     → (broken : Bool) (t : ℕ) → t ≡ time_heard H → broken ≡ nat_lt 0 (length (those_over None (holder_in new.holders) t (hearing_of old.hearing).listening.current))
     → hearing_of new.hearing ≡ leaving None (holder_in new.holders) t (hearing_of old.hearing) → new.hearing.whole ≡ old.hearing.whole
     → new.news ≡ record { lost = old.news.lost; another = old.news.another; doubled = old.news.doubled; missed = broken || old.news.missed }
@@ -738,7 +754,7 @@ first_acknowledged w H c now false o h g e =
     ∙ sym (ap (option_map (refusal_by w)) e))
 
 pub peeks_other : (w : Who) (H : List Call) (c : Controller) (now : ℕ) (k : Hold) (r : Option FrameRecord) → Is w H c → IsOthers w H now k
-    → option_map stamped r ≡ option_map (at_now now) (turn_frame (turn_of k.yields (ready_in c k)) (slice_get (incoming_of c.incoming).reception.replies 0)
+    → option_map stamped r ≡ option_map (at_now now) (turn_frame (turn_of k.yields (ready_in c k)) (slice_get (replies_of (incoming_of c.incoming).reception) 0)
     (option_map posted (slice_get c.outgoing.items c.taken)) (packet_by (lane_of (who_of w.brought c.own) c.lane).current c.lane.count k.pause)
     (transfer_by (port_of c.transfers).current (clock k.age)))
     → option_map stamped r ≡ next_frame w H now
@@ -750,9 +766,6 @@ peeks_other w H c now k r h o m =
 -- whose turn it is has a frame
 pub single_there : (c : Controller) (k : Hold) → turn_of k.yields (ready_in c k) ≡ Some Single → slice_get c.outgoing.items c.taken ≡ None → ⊥
 single_there c k e = some_at c.outgoing.items c.taken (subst (IsTurn k.yields (ready_in c k)) e (turn_is k.yields (ready_in c k))).0
-
-pub reply_there : (c : Controller) (k : Hold) → turn_of k.yields (ready_in c k) ≡ Some Reply → 0 < length c.incoming.replies.items
-reply_there c k e = ltb-true 0 (length c.incoming.replies.items) (subst (IsTurn k.yields (ready_in c k)) e (turn_is k.yields (ready_in c k))).0
 
 pub packet_goes : (c : Controller) (k : Hold) (now : ℕ) → turn_of k.yields (ready_in c k) ≡ Some Packet
     → (let none : Option (ℕ × Message) = None in none) ≡ option_map (at_now now) (packet_by (lane_of (who_of nothing c.own) c.lane).current c.lane.count k.pause) → ⊥

@@ -1,8 +1,8 @@
 -- What kind a frame is that is taken.
 use Rattle.j39_node.proofs.SoundLemmas.FrameCase.{claims, acknowledges, replies, sends, packs, transfers}
-use Rattle.j39_node.proofs.Common.{arith, ◌≡◌, ◌&&◌, ◌||◌, ap, Bool, false, length, List, Some, true, ℕ, FrameRecord, acknowledged, Call, due, is_acknowledgment, is_claim, is_packet, is_session, Message, Who, AreAnswered, is_move, is_reply, reception, Move}
+use Rattle.j39_node.proofs.Common.{acknowledged, all_replies, ap, AreAnswered, arith, Bool, Call, due, false, FrameRecord, is_acknowledgment, is_claim, is_move, is_packet, is_reply, is_session, length, List, Message, Move, Some, true, Who, ℕ, ◌&&◌, ◌||◌, ◌≡◌}
 use Rattle.j39_node.proofs.SoundLemmas.{FrameCase, is_moved, reply_no_move, is_directed, due_taken, IsDue, reply_taken, own_taken, own_of, transfer_taken, apart_is, reply_is, turned, sound}
-use Rattle.j39_node.proofs.ReceptionLemmas.{replied_get, tidy}
+use Rattle.j39_node.proofs.ReceptionLemmas.{reply_of}
 use Rattle.j39_node.proofs.QueueLemmas.{all_at}
 
 -- a claim, an acknowledgment, one of a session, of a broadcast, the first reply, one of the open transfer
@@ -20,7 +20,7 @@ kind w H f = record {
   acknowledgment = is_acknowledgment f;
   session = is_session f;
   packet = is_packet f;
-  reply = is_reply (reception w H).replies f;
+  reply = is_reply (all_replies w H) f;
   move = is_move w H f;
 }
 
@@ -47,7 +47,7 @@ kind_is w H now f right (claims o e) = grind arith
 kind_is w H now f right (acknowledges m o h g e way) =
     let r = due_taken w f now m e (all_at (IsDue w) (due w H) (length (acknowledged H)) m (sound w H right).desk.0 g) in kind_single w H f false true r.0 r.1 r.2
 kind_is w H now f right (replies m o h n g e) =
-    let r = reply_taken w.address f now m e (replied_get w.address (reception w H).replies 0 m (tidy w H).replies g) in
+    let r = reply_taken w.address f now m e (reply_of w H 0 m g) in
     let that = ap (λ (y : ℕ × Message). y.1) e in
     λ i. record { claim = r.0 i; acknowledgment = r.1 i; session = r.2 i; packet = r.3 i; reply = is_directed f r.2 r.3 i && reply_is w H f m g that i; move = reply_no_move w H f m g that i }
 kind_is w H now f right (sends x o h n g e) =
@@ -75,7 +75,7 @@ module _ (w : Who) (H : List Call) (now : ℕ) (f : FrameRecord) (right : AreAns
   pub packs_it : is_packet f ≡ (kind_by c).packet
   packs_it = ap (λ (k : Kind). k.packet) (kind_is w H now f right c)
 
-  pub replies_it : is_reply (reception w H).replies f ≡ (kind_by c).reply
+  pub replies_it : is_reply (all_replies w H) f ≡ (kind_by c).reply
   replies_it = ap (λ (k : Kind). k.reply) (kind_is w H now f right c)
 
   pub moves_it : is_move w H f ≡ (kind_by c).move

@@ -1,11 +1,11 @@
 -- The laws.
 use Rattle.std.proofs.lemmas.Grind.{common_steps}
-use Rattle.j39_node.proofs.Common.{Address, AddressLost, AnotherAtAddress, AreAnswered, Asked, At, Bool, Busy, Call, Claim, Claimed, Controller, Draft, Ending, FrameRecord, HasDouble, Hear, Is, IsFront, IsTrue, List, Lost, Message, MessagesMissed, Move, Nack, NameDoubled, News, None, NoneTold, NotClaimed, Option, Renew, Reply, Some, TakeEnded, TakeFrame, TakeNews, Tick, Who, Withdraw, [], accepted, acknowledged, acknowledgment, acknowledgment_group, address_after, address_claimed_group, age, and-false, and_from, and_parts, answers_another, ap, append-nil, arith, asked, at_in, called, calls, claim_address, claim_due, claim_from, claim_goes, claim_of, content, delayed, double, doubled_news, drop, due, end_of, eq-eqb, eqb-true, false, first, frames, fresh, gives_way, got, handed, held_at, holds, if◌then◌else◌, inl, inr, is_acknowledgment, is_alike, is_another, is_apart, is_blank, is_claim, is_double, is_for_program, is_held, is_lost, is_move, is_refusal_due, is_reply, is_served, is_smaller, is_subscribed, is_there, is_transfer, kept, later, le-leb, le-ltb, length, length-append, long_by, lost_news, lt-ltb, ltb-false, marks, may_claim, may_go, message_from, message_of, missed, missed_news, moment, nat_eq, nat_le, nat_lt, news_of, next_acknowledgment, next_due, next_frame, next_long, next_other, next_packet, next_transfer, next_withdrawn, not, not_both, older, open_broadcast, option_map, option_or, or_parts, other, owes_claim, packets, passed_in, patience, pause, pgn_of, reached, ready, reception, refl, refusal_waits, request_group, requests, slice_get, slice_get-map, slice_get_within, source_of, stamp_at, stamped, status_after, status_of, step, suc, sym, takes_other, told, true, turns, unclaimed, waits_already, with_refusal, with_request, yields, ℕ, ◌&&◌, ◌*◌, ◌++◌, ◌+◌, ◌-◌, ◌<◌, ◌||◌, ◌↔◌, ◌∙◌, ◌∷◌, ◌≡◌, ◌≢◌, ◌≤◌, ◌⊎◌, or_cases, or_left, or_right, cond_both, ne_eqb, leb-false, subst, cases_Bool, cases_lt}
+use Rattle.j39_node.proofs.Common.{[], accepted, acknowledged, acknowledgment, acknowledgment_group, Address, address_after, address_claimed_group, AddressLost, age, all_replies, and-false, and_from, and_parts, AnotherAtAddress, answers_another, ap, append-nil, AreAnswered, arith, Asked, asked, At, at_in, Bool, Busy, Call, called, calls, cases_Bool, cases_lt, Claim, claim_address, claim_due, claim_from, claim_goes, claim_of, Claimed, cond_both, content, Controller, delayed, double, doubled_news, Draft, drop, due, end_of, Ending, eq-eqb, eqb-true, false, first, FrameRecord, frames, fresh, gives_way, got, handed, HasDouble, Hear, held_at, holds, if◌then◌else◌, inl, inr, Is, is_acknowledgment, is_alike, is_another, is_apart, is_blank, is_claim, is_double, is_for_program, is_held, is_lost, is_move, is_refusal_due, is_reply, is_served, is_smaller, is_subscribed, is_there, is_transfer, IsFront, IsTrue, kept, later, le-leb, le-ltb, leb-false, length, length-append, List, long_by, Lost, lost_news, lt-ltb, ltb-false, marks, may_claim, may_go, Message, message_from, message_of, MessagesMissed, missed, missed_news, moment, Move, Nack, NameDoubled, nat_eq, nat_le, nat_lt, ne_eqb, News, news_of, next_acknowledgment, next_due, next_frame, next_long, next_other, next_packet, next_transfer, next_withdrawn, None, NoneTold, not, not_both, NotClaimed, older, open_broadcast, Option, option_map, option_or, or_cases, or_left, or_parts, or_right, other, owes_claim, packets, passed_in, patience, pause, pgn_of, reached, ready, refl, refusal_waits, Renew, Reply, request_group, requests, slice_get, slice_get-map, slice_get_within, Some, source_of, stamp_at, stamped, status_after, status_of, step, subst, suc, sym, TakeEnded, TakeFrame, TakeNews, takes_other, Tick, told, true, turns, unclaimed, waits_already, Who, with_refusal, with_request, Withdraw, yields, ℕ, ◌&&◌, ◌*◌, ◌++◌, ◌+◌, ◌-◌, ◌<◌, ◌||◌, ◌↔◌, ◌∙◌, ◌∷◌, ◌≡◌, ◌≢◌, ◌≤◌, ◌⊎◌}
 use Rattle.j39_node.proofs.PromptLaws.{answered_from}
 use Rattle.j39_node.specs.History.{heard, Again}
 use Rattle.j39_node.specs.Reception.{is_waiting}
 use Rattle.j39_address.specs.declared.status.Status.TheVariants as status
-use Rattle.j39_node.proofs.ReceptionLemmas.{replied_get, tidy}
+use Rattle.j39_node.proofs.ReceptionLemmas.{reply_of}
 use Rattle.j39_node.proofs.DueLemmas.{both_none, from_long, quiet_long, then_long}
 use Rattle.j39_node.proofs.QueueLemmas.{length_one_more, all_at}
 use Rattle.j39_node.proofs.SoundLemmas.{apart_is, is_moved, IsTurn, claim_single, no_transfer, none_there, packet_session, packet_there, own_taken, turned, Rest, none_at, none_next, none_other, other_none, claim_is, given_way, none_acknowledged, none_due_goes, none_gives, FrameCase, Sound, claim_taken, IsDue, due_taken, frame_by, frame_case, held_older, own_of, packet_case, packet_taken, sound, transfer_taken, holding_not_lost, renew_case, WithdrawCase, withdraw_case, past_end, Told, told_case, stamped_by, claims_or_held, stays_lost}
@@ -24,27 +24,32 @@ frame w H c now f is = frame_case w H now f is.answered.1
 pub moments : (w : Who) (H : List Call) (c : Controller) (now : ℕ) (f : FrameRecord) → Is w (At now (TakeFrame (Some f)) ∷ H) c → f.stamp ≡ now
 moments w H c now f is = ap (λ (x : ℕ × Message). x.0) (stamped_by (frame w H c now f is)).1
 
-pub sources : (w : Who) (H : List Call) (c : Controller) (now : ℕ) (f : FrameRecord) → Is w (At now (TakeFrame (Some f)) ∷ H) c
+pub source_by : (w : Who) (H : List Call) (now : ℕ) (f : FrameRecord) → AreAnswered w (At now (TakeFrame (Some f)) ∷ H)
     → (message_of f ≡ claim_from w (claim_address w (address_after w H)))
     ⊎ (IsTrue (holds w H now) × (source_of f.id ≡ w.address) × (pgn_of f.id ≢ address_claimed_group))
-sources w H c now f is = go (frame w H c now f is)
+source_by w H now f right = go (frame_case w H now f right.1)
   where
     no_claim : (c : FrameCase w H now f) → (kind_by c).claim ≡ false → pgn_of f.id ≢ address_claimed_group
-    no_claim c k z = not_both (is_claim f) (claims_it w H now f is.answered.0 c ∙ k) (eq-eqb (pgn_of f.id) address_claimed_group z)
+    no_claim c k z = not_both (is_claim f) (claims_it w H now f right.0 c ∙ k) (eq-eqb (pgn_of f.id) address_claimed_group z)
 
     go : FrameCase w H now f → (message_of f ≡ claim_from w (claim_address w (address_after w H)))
         ⊎ (IsTrue (holds w H now) × (source_of f.id ≡ w.address) × (pgn_of f.id ≢ address_claimed_group))
     go (claims o e) = inl (ap content e)
     go (acknowledges m o h g e way) =
-        inr (h, ap (λ (y : ℕ × Message). y.1.source) e ∙ (all_at (IsDue w) (due w H) (length (acknowledged H)) m (sound w H is.answered.0).desk.0 g).source, no_claim (acknowledges m o h g e way) refl)
+        inr (h, ap (λ (y : ℕ × Message). y.1.source) e ∙ (all_at (IsDue w) (due w H) (length (acknowledged H)) m (sound w H right.0).desk.0 g).source, no_claim (acknowledges m o h g e way) refl)
     go (replies m o h k g e) =
-        inr (h, ap (λ (y : ℕ × Message). y.1.source) e ∙ (replied_get w.address (reception w H).replies 0 m (tidy w H).replies g).source, no_claim (replies m o h k g e) refl)
-    go (sends x o h k g e) = inr (h, ap (λ (y : ℕ × Message). y.1.source) e ∙ (own_of w H x is.answered.0 g).source, no_claim (sends x o h k g e) refl)
+        inr (h, ap (λ (y : ℕ × Message). y.1.source) e ∙ (reply_of w H 0 m g).source, no_claim (replies m o h k g e) refl)
+    go (sends x o h k g e) = inr (h, ap (λ (y : ℕ × Message). y.1.source) e ∙ (own_of w H x right.0 g).source, no_claim (sends x o h k g e) refl)
     go (packs m o h k g e) =
         let p = packet_case (open_broadcast w H) (length (packets H)) (pause H - step H now) m g in
-        let is_own = (opened_by w _ _ _ (open_broadcast w H) (p.token, p.message) (laned w H is.answered.0) p.is).source in
+        let is_own = (opened_by w _ _ _ (open_broadcast w H) (p.token, p.message) (laned w H right.0) p.is).source in
         inr (h, ap (λ (y : ℕ × Message). y.1.source) e ∙ (ap (λ (y : Message). y.source) p.frame ∙ is_own), no_claim (packs m o h k g e) refl)
-    go (transfers m o h k g e) = inr (h, (transfer_taken w H now f m is.answered.0 e g).source, no_claim (transfers m o h k g e) refl)
+    go (transfers m o h k g e) = inr (h, (transfer_taken w H now f m right.0 e g).source, no_claim (transfers m o h k g e) refl)
+
+pub sources : (w : Who) (H : List Call) (c : Controller) (now : ℕ) (f : FrameRecord) → Is w (At now (TakeFrame (Some f)) ∷ H) c
+    → (message_of f ≡ claim_from w (claim_address w (address_after w H)))
+    ⊎ (IsTrue (holds w H now) × (source_of f.id ≡ w.address) × (pgn_of f.id ≢ address_claimed_group))
+sources w H c now f is = source_by w H now f is.answered
 
 -- ---- accounted once
 
@@ -271,15 +276,15 @@ still_yields : (w : Who) (later H : List Call) → NoneTold takes_other later �
 still_yields w [] H n e = e
 still_yields w (call ∷ later) H e f = let h = still_yields w later H in grind (arith, h, e, f)
 
-yields_then : (w : Who) (H : List Call) (now : ℕ) (f : FrameRecord) → is_reply (reception w H).replies f ≡ true → yields w (At now (TakeFrame (Some f)) ∷ H) ≡ true
+yields_then : (w : Who) (H : List Call) (now : ℕ) (f : FrameRecord) → is_reply (all_replies w H) f ≡ true → yields w (At now (TakeFrame (Some f)) ∷ H) ≡ true
 yields_then w H now f e = grind (arith, e)
 
 -- and behind it what else is due goes before the next reply
 pub behind_a_reply : (w : Who) (H later : List Call) (c : Controller) (last first : ℕ) (f i : FrameRecord)
-    → Is w (At last (TakeFrame (Some i)) ∷ later ++ At first (TakeFrame (Some f)) ∷ H) c → IsTrue (is_reply (reception w H).replies f) → NoneTold takes_other later
+    → Is w (At last (TakeFrame (Some i)) ∷ later ++ At first (TakeFrame (Some f)) ∷ H) c → IsTrue (is_reply (all_replies w H) f) → NoneTold takes_other later
     → (reached (later ++ At first (TakeFrame (Some f)) ∷ H) < length (accepted w (later ++ At first (TakeFrame (Some f)) ∷ H)))
     ⊎ ((next_packet w (later ++ At first (TakeFrame (Some f)) ∷ H) last ≢ None)
-    ⊎ IsTrue (is_apart (next_transfer w (later ++ At first (TakeFrame (Some f)) ∷ H) last) (slice_get (reception w (later ++ At first (TakeFrame (Some f)) ∷ H)).replies 0)))
+    ⊎ IsTrue (is_apart (next_transfer w (later ++ At first (TakeFrame (Some f)) ∷ H) last) (slice_get (all_replies w (later ++ At first (TakeFrame (Some f)) ∷ H)) 0)))
     → (is_transfer i ≡ false) ⊎ IsTrue (is_move w (later ++ At first (TakeFrame (Some f)) ∷ H) i)
 behind_a_reply w H later c last first f i is t none due_one = go (frame_case w G last i is.answered.1)
   where
@@ -316,15 +321,15 @@ no_first (x ∷ L) e = absurd (cc)
 
 -- a message or a reply that waits is due, and so is a frame of packets
 pub others_due : (w : Who) (H : List Call) (now : ℕ) → IsTrue (holds w H now)
-    → (reached H < length (accepted w H)) ⊎ (((reception w H).replies ≢ []) ⊎ (next_long w H now ≢ None)) → next_other w H now ≢ None
+    → (reached H < length (accepted w H)) ⊎ (((all_replies w H) ≢ []) ⊎ (next_long w H now ≢ None)) → next_other w H now ≢ None
 others_due w H now held one e = go one
   where
     n : Rest w H now × (next_transfer w H now ≡ None)
     n = none_other w H now (sym (ap (λ (b : Bool). if b then other w H now else None) held) ∙ e)
 
-    go : (reached H < length (accepted w H)) ⊎ (((reception w H).replies ≢ []) ⊎ (next_long w H now ≢ None)) → ⊥
+    go : (reached H < length (accepted w H)) ⊎ (((all_replies w H) ≢ []) ⊎ (next_long w H now ≢ None)) → ⊥
     go (inl s) = let a = past_end (accepted w H) (reached H) n.0.message in omega (arith, s, a)
-    go (inr (inl r)) = r (no_first (reception w H).replies n.0.reply)
+    go (inr (inl r)) = r (no_first (all_replies w H) n.0.reply)
     go (inr (inr l)) = l (ap (λ o. long_by o (next_transfer w H now)) n.0.packet ∙ n.1)
 
 no_claim_left : (w : Who) (H : List Call) (now : ℕ) → claim_goes w H now ≡ true → (let none : Option (ℕ × Message) = None in none) ≡ next_frame w H now → ⊥
@@ -614,7 +619,7 @@ nothing_taken w H now l m q =
         inr (
           none_due_goes w H now (none_at (due w H) (length (acknowledged H)) u.0),
           other_none w H now (record {
-            reply = none_at (reception w H).replies 0 u.1;
+            reply = none_at (all_replies w H) 0 u.1;
             message = none_at (accepted w H) (reached H) v.0;
             packet = (long z).0;
           }) (long z).1,
@@ -654,10 +659,10 @@ none_taken w H c now is long later = go (may_claim w H (delayed w H)) (is_held (
         let n = none_next w H now (held_older _ (address_after w H) q) is.answered.1 in
         let a = there (due w H) (length (acknowledged H)) n.acknowledgment in
         let b = there (accepted w H) (reached H) n.rest.message in
-        let v = there (reception w H).replies 0 n.rest.reply in
+        let v = there (all_replies w H) 0 n.rest.reply in
         let d : is_waiting w H ≡ false =
-        ap (λ (u : Bool). u || (nat_lt (length (acknowledged H)) (length (due w H)) || nat_lt 0 (length (reception w H).replies))) b
-        ∙ (ap (λ (u : Bool). u || nat_lt 0 (length (reception w H).replies)) a ∙ v) in
+        ap (λ (u : Bool). u || (nat_lt (length (acknowledged H)) (length (due w H)) || nat_lt 0 (length (all_replies w H)))) b
+        ∙ (ap (λ (u : Bool). u || nat_lt 0 (length (all_replies w H))) a ∙ v) in
         not_both _ d r
     go false true false p q r =
         let n = none_next w H now (held_older _ (address_after w H) q) is.answered.1 in

@@ -43,13 +43,10 @@ pub mod LaneLaws
 pub mod SinceLemmas
 -- what is received in packets, step by step
 pub mod PacketLemmas
-pub mod IncomingLemmas
 -- the laws of messages that come in packets
 pub mod ReceptionLaws
--- a session ends by itself
+-- a session ends by itself, and what is sent whole is received
 pub mod SessionLaws
--- what is sent whole is received
-pub mod BringLaws
 -- a restart is met
 pub mod RestartLaws
 -- the laws of transfers

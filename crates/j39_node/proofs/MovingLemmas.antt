@@ -1,11 +1,15 @@
 -- When a controller may move, by what it has; and what it is then.
-use Rattle.j39_node.proofs.Common.{AskEnding, Bool, Call, Claim, Claims, Controller, HasMoved, HearingRecord, IncomingRecord, Is, IsHolderAfter, IsLeastFree, IsSettled, Knows, List, None, NoneFree, Option, PortRecord, Question, Some, Untold, View, Who, [], accepted, and_parts, ap, arith, asked_by, asking_of, eqb-true, false, got, handed, has_given, has_place, has_told, hearing_of, hold_after, hold_moved, holder_in, incoming_of, kept, lane_of, later, length, length-map, map, message_by, moment, moved, name_raw, nat_eq, news_of, no_reception, not, option_map, port_of, posted, received_by, recv_step, refl, refusal_by, request_by, requests, rest, sender_by, subst, sym, takes_tick, ticked, time_heard, told, told_claims, true, ℕ, ◌&&◌, ◌+◌, ◌-◌, ◌<◌, ◌||◌, ◌∙◌, ◌∷◌, ◌≡◌, ◌≢◌, ◌≤◌}
+use Rattle.j39_node.proofs.Common.{[], accepted, and_parts, ap, arith, asked_by, AskEnding, asking_of, Bool, Call, Claim, Claims, Controller, eqb-true, false, got, handed, has_given, has_told, HasMoved, hearing_of, HearingRecord, hold_after, hold_moved, holder_in, incoming_of, IncomingRecord, Is, IsHolderAfter, IsLeastFree, IsSettled, kept, Knows, lane_of, later, length, length-map, List, loses, map, message_by, moment, moved, name_raw, nat_eq, news_of, None, none_of, NoneFree, not, Option, option_map, port_of, PortRecord, posted, Question, received_by, refl, refusal_by, request_by, requests, rest, sender_by, subst, sym, told, told_claims, true, Untold, View, Who, ℕ, ◌&&◌, ◌+◌, ◌-◌, ◌<◌, ◌||◌, ◌∙◌, ◌∷◌, ◌≡◌, ◌≢◌, ◌≤◌}
 use Rattle.j39_node.specs.Boxes.{in_box}
 use Rattle.std.specs.Option.{is_some}
 use Rattle.j39_node.specs.Moving.{begun}
 use Rattle.j39_address.proofs.HolderLemmas.{same_holder}
 use Rattle.j39_node.proofs.QueueLemmas.{length_rest}
 use Rattle.j39_node.proofs.SoundLemmas.{front_length, read, sound}
+use Rattle.j39_node.proofs.ReceptionLemmas.{own}
+use Rattle.j39_sessions.specs.Seats.{kept_in, sender_in}
+use Rattle.j39_sessions.specs.Shown.{sessions_of}
+use Rattle.j39_sessions.specs.declared.sessions.Sessions.{Sessions}
 
 -- ---- free addresses
 
@@ -35,9 +39,6 @@ none_is v o e = grind (arith, e)
 asked_none : (o : Option Question) (n : ℕ) (e : Option AskEnding) → asked_by o n e ≡ None → o ≡ None
 asked_none o n e f = grind (arith, f)
 
-place_none : {T : Type 0} (o : Option T) → (p : Option T → Bool) → ((x : T) → p (Some x) ≡ false) → p o ≡ true → o ≡ None
-place_none o p e f = grind (arith, e, f)
-
 no_news : (a b : Bool) (d : Option ℕ) (c : Bool) → not (a || (b || (is_some d || c))) ≡ true → news_of a b d c ≡ None
 no_news a b d c e = grind (arith, e)
 
@@ -65,7 +66,7 @@ settles w H c h e =
       request = asked_none _ _ _ (sym (ap (λ (v : View). v.asking) h.shown) ∙ none_is _ _ t3.1);
       received = empty_is _ _ _ (length_rest received_by c.inbox.unread.items (length (got H)) (kept w H) (ap (λ (v : View). v.unread) h.shown)) (read w H s) g.0;
       requests_taken = empty_is _ _ _ (length_rest request_by c.desk.waiting.items (length (handed H)) (requests w H) (ap (λ (v : View). v.requests) h.shown)) (front_length _ _ s.desk.2) g2.0;
-      received_transfer = sym (ap (λ (v : View). v.incoming.reception.waits) h.shown) ∙ place_none _ has_place (λ x. refl) g3.0;
+      received_transfer = none_waits _ _ (ap (λ (v : View). length v.incoming.reception.waits) h.shown) g3.0;
       received_broadcast = none_waits _ _ (sym (length-map c.hearing.whole.items (λ b. message_by (in_box b))) ∙ ap (λ (v : View). length v.hearing.listening.waits) h.shown) g4.0;
       news = no_news _ _ _ _ (sym (ap (λ (v : View). not (v.news.lost || (v.news.another || (is_some v.news.doubled || v.news.missed)))) h.shown) ∙ g4.1);
     }
@@ -85,24 +86,32 @@ brought_on m r = omega arith
 none_less : (m : ℕ) → m ≡ m - 0
 none_less m = omega arith
 
--- a tick without a session
-none_ticked : (own stamp now : ℕ) → no_reception ≡ ticked own stamp now no_reception
-unfolding recv_step takes_tick
-none_ticked own stamp now = refl
+-- sessions of which none waits, at another address
+none_there : (s : Sessions) (own most boxes a : ℕ) → nat_eq (length (sessions_of s).waits) 0 ≡ true → (sessions_of s).most ≡ most → (sessions_of s).boxes ≡ boxes
+    → record (loses (sessions_of s)) { own = a } ≡ none_of a most boxes
+none_there s own most boxes a e m b = let n = none_waits 0 s.whole.items (sym (eqb-true _ _ e) ∙ length-map s.whole.items kept_in) refl in λ i. record {
+  own = a;
+  most = m i;
+  boxes = b i;
+  sessions = [];
+  waits = map kept_in (n i);
+  senders = map sender_in (n i);
+  replies = [];
+}
 
 zero_less : (n : ℕ) → 0 ≡ 0 - n
 zero_less n = omega arith
 
 pub begins_anew : (w : Who) (H : List Call) (old new : Controller) (a : ℕ) → Is w H old → (has_told old && has_given old) ≡ true
-    → new.own.name ≡ old.own.name → new.own.address ≡ a → new.own.delay ≡ old.own.delay → new.own.served.items ≡ old.own.served.items → new.own.subscribed ≡ old.own.subscribed → new.own.boxes ≡ old.own.boxes
+    → new.own.name ≡ old.own.name → new.own.address ≡ a → new.own.delay ≡ old.own.delay → new.own.served.items ≡ old.own.served.items → new.own.subscribed ≡ old.own.subscribed → new.own.boxes ≡ old.own.boxes → new.own.sessions ≡ old.own.sessions → new.own.window ≡ old.own.window
     → new.hold ≡ hold_moved old.hold
     → new.outgoing ≡ old.outgoing → new.taken ≡ 0 → new.next_token ≡ 0 → new.asking ≡ old.asking → new.inbox.unread ≡ old.inbox.unread → new.inbox.missed ≡ 0
     → new.desk.waiting ≡ old.desk.waiting → new.desk.due.items ≡ [] → new.news ≡ old.news → new.holders ≡ old.holders
     → new.lane ≡ record { current = None; count = 0; next_token = 0 }
-    → incoming_of new.incoming ≡ record { moment = old.hold.moment; clock = later 0 old.hold.moment; own = a; has_box = true; called = record { left = 0; whose = 0 }; reception = no_reception }
-    → port_of new.transfers ≡ record { current = None; next_token = 0; resting = (port_of old.transfers).resting } → ((hearing_of old.hearing).listening.waits ≡ [] → hearing_of new.hearing ≡ record { listening = record { current = []; waits = [] }; boxes = (hearing_of old.hearing).boxes; missed = 0 }) → new.hearing.whole ≡ old.hearing.whole → new.transfer_sender ≡ None
+    → incoming_of new.incoming ≡ record { moment = old.hold.moment; clock = later 0 old.hold.moment; called = record { left = 0; whose = 0 }; reception = record (loses (incoming_of old.incoming).reception) { own = a } }
+    → port_of new.transfers ≡ record { current = None; next_token = 0; resting = (port_of old.transfers).resting } → ((hearing_of old.hearing).listening.waits ≡ [] → hearing_of new.hearing ≡ record { listening = record { current = []; waits = [] }; boxes = (hearing_of old.hearing).boxes; missed = 0 }) → new.hearing.whole ≡ old.hearing.whole
     → HasMoved w H a new
-begins_anew w H old new a h e o1 o2 o5 o3 o4 o6 q1 q2 q3 q4 q5 q6 q7 q8 q9 q10 q11 q12 q15 q16 q18 q20 q19 =
+begins_anew w H old new a h e o1 o2 o5 o3 o4 o6 o7 o8 q1 q2 q3 q4 q5 q6 q7 q8 q9 q10 q11 q12 q15 q16 q18 q20 =
     let p = and_parts _ _ e in
     let t = and_parts _ _ p.0 in
     let t3 = and_parts _ _ (and_parts _ _ t.1).1 in
@@ -110,9 +119,11 @@ begins_anew w H old new a h e o1 o2 o5 o3 o4 o6 q1 q2 q3 q4 q5 q6 q7 q8 q9 q10 q
     let g2 = and_parts _ _ g.1 in
     let g3 = and_parts _ _ g2.1 in
     let g4 = and_parts _ _ g3.1 in
+    let most = ap (λ (v : View). v.incoming.reception.most) h.shown ∙ (own w H).2 in
+    let boxes = ap (λ (v : View). v.incoming.reception.boxes) h.shown ∙ (own w H).1 in
     record {
       shown = λ i. record {
-        who = record { name = (ap name_raw o1 ∙ ap (λ (v : View). v.who.name) h.shown) i; address = o2 i; delay = (o5 ∙ ap (λ (v : View). v.who.delay) h.shown) i; served = (o3 ∙ ap (λ (v : View). v.who.served) h.shown) i; subscribed = (ap (option_map (λ g. g.items)) o4 ∙ ap (λ (v : View). v.who.subscribed) h.shown) i; boxes = (o6 ∙ ap (λ (v : View). v.who.boxes) h.shown) i; brought = (moved w H a).brought };
+        who = record { name = (ap name_raw o1 ∙ ap (λ (v : View). v.who.name) h.shown) i; address = o2 i; delay = (o5 ∙ ap (λ (v : View). v.who.delay) h.shown) i; served = (o3 ∙ ap (λ (v : View). v.who.served) h.shown) i; subscribed = (ap (option_map (λ g. g.items)) o4 ∙ ap (λ (v : View). v.who.subscribed) h.shown) i; boxes = (o6 ∙ ap (λ (v : View). v.who.boxes) h.shown) i; sessions = (o7 ∙ ap (λ (v : View). v.who.sessions) h.shown) i; window = (o8 ∙ ap (λ (v : View). v.who.window) h.shown) i; brought = (moved w H a).brought };
         hold = (q1 ∙ (ap (λ (v : View). hold_moved v.hold) h.shown ∙ (λ i. record (hold_after (moved w H a) (begun H)) { rest = brought_on (moment H) (rest w H) i }))) i;
         outgoing = (ap (λ x. map posted x.items) q2 ∙ nothing posted old.outgoing.items t.0) i;
         taken = q3 i;
@@ -126,11 +137,10 @@ begins_anew w H old new a h e o1 o2 o5 o3 o4 o6 q1 q2 q3 q4 q5 q6 q7 q8 q9 q10 q
         missed = q7 i;
         lane = lane_of (moved w H a) (q12 i);
         incoming = (q15
-            ∙ ((λ i. (let m = (h.shown i).hold.moment in let x : IncomingRecord = record { moment = m; clock = later 0 m; own = a; has_box = true; called = record { left = 0; whose = 0 }; reception = no_reception } in x))
-            ∙ (λ i. (let x : IncomingRecord = record { moment = moment H; clock = later 0 (none_less (moment H) i); own = a; has_box = true; called = record { left = zero_less (moment H - 0) i; whose = 0 }; reception = none_ticked a (moment H) (time_heard (begun H)) i } in x)))) i;
+            ∙ ((λ i. (let m = (h.shown i).hold.moment in let x : IncomingRecord = record { moment = m; clock = later 0 m; called = record { left = 0; whose = 0 }; reception = none_there old.incoming.sessions a w.window w.sessions a g3.0 most boxes i } in x))
+            ∙ (λ i. (let x : IncomingRecord = record { moment = moment H; clock = later 0 (none_less (moment H) i); called = record { left = zero_less (moment H - 0) i; whose = 0 }; reception = none_of a w.window w.sessions } in x)))) i;
         port = (q16 ∙ ap (λ (v : View). (let q : PortRecord = record { current = None; next_token = 0; resting = v.port.resting } in q)) h.shown) i;
         hearing = (q18 (nothing (λ b. message_by (in_box b)) old.hearing.whole.items g4.0) ∙ ap (λ (v : View). (let x : HearingRecord = record { listening = record { current = []; waits = [] }; boxes = v.hearing.boxes; missed = 0 } in x)) h.shown) i;
-        transfer_sender = ap (option_map name_raw) q19 i;
         broadcast_senders = (ap (λ v. map (λ b. (in_box b).name) v.items) q20 ∙ nothing (λ b. (in_box b).name) old.hearing.whole.items g4.0) i;
       };
       answered = (tt, tt);

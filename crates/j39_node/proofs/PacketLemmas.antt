@@ -1,32 +1,28 @@
--- Packets, as their frames say them.
-use Rattle.j39_node.proofs.Common.{Bool, Directed, FrameRecord, Heard, None, Option, ReceiverRecord, ReceptionRecord, Some, [], ap, arith, broadcast_in, cond_both, control_in, if◌then◌else◌, key_between, length, nat_lt, not, number_in, packed_in, packet_in, pgn_of, ps_of, recv_step, request_in, result_of, said_between, said_to, shown, slice_index, source_of, strays, takes_signal, transport_data_group, ℕ, ◌&&◌, ◌==◌, ◌≡◌}
-use Rattle.j39_transport.specs.Signals.{said_by}
+-- What frames say in sessions.
+use Rattle.j39_node.proofs.Common.{address_claimed_group, and_parts, arith, Claim, claim_of, cond_both, destination_of, eqb-true, false, FrameRecord, length, nat_lt, None, Option, pgn_of, ps_of, refl, said_between, said_to, Signal, Some, source_of, sym, true, ℕ, ◌%◌, ◌&&◌, ◌/◌, ◌<◌, ◌==◌, ◌∙◌, ◌≡◌}
+use Rattle.j39_sessions.specs.Sessions.{is_of_session}
 use Rattle.j39_transport.specs.Frames as frames
+use Rattle.j39_transport.specs.Signals.{said_by}
 
--- a frame with no bytes says nothing
-pub hushed : (own stamp id : ℕ) → said_to own (record { stamp = stamp; id = id; bytes = [] }) ≡ None
-unfolding said_to said_between said_by
-hushed own stamp id = grind arith
+-- a claim says nothing in one
+pub unsaid : (own : ℕ) (f : FrameRecord) → pgn_of f.id ≡ address_claimed_group → said_to own f ≡ None
+unfolding said_to said_between said_by frames.source_of frames.destination_of frames.group_of
+unsaid own f e = grind (arith, e)
 
--- what is shown is the frame, or says nothing
-pub shown_both : (own : ℕ) (o : Option ReceptionRecord) (f : FrameRecord) (P : FrameRecord → Type 0) → P (record { stamp = f.stamp; id = f.id; bytes = [] }) → P f → P (shown own o f)
-shown_both own o f P h k = cond_both (strays (packet_in own f o) o) _ _ (λ bytes. P (record { stamp = f.stamp; id = f.id; bytes = bytes })) (λ z. h) (λ z. k)
+claimed_none : (f : FrameRecord) → (pgn_of f.id ≡ address_claimed_group → ⊥) → claim_of f ≡ None
+claimed_none f n = cond_both (pgn_of f.id == address_claimed_group && length f.bytes == 8 && nat_lt (source_of f.id) 255) _ _ (λ (c : Option Claim). c ≡ None)
+    (λ t. absurd (n (eqb-true _ _ (and_parts _ _ (and_parts _ _ t).0).0))) (λ t. refl)
 
-pub shown_none : (own : ℕ) (o : Option ReceptionRecord) (f : FrameRecord) → said_to own f ≡ None → said_to own (shown own o f) ≡ None
-shown_none own o f e = shown_both own o f (λ (g : FrameRecord). said_to own g ≡ None) (hushed own f.stamp f.id) e
+pub said_no_claim : (own : ℕ) (f : FrameRecord) (s : Signal) → said_to own f ≡ Some s → claim_of f ≡ None
+said_no_claim own f s e = claimed_none f (λ g. (let z : None ≡ Some s = sym (unsaid own f g) ∙ e in absurd (cc)))
 
-none_by : (f : FrameRecord) → number_in (control_in f) ≡ None
-unfolding control_in request_in broadcast_in
-none_by f = grind arith
+pub session_no_claim : (own : ℕ) (f : FrameRecord) → is_of_session own f ≡ true → claim_of f ≡ None
+session_no_claim own f e = claimed_none f (λ g. absurd (grind (arith, e, g)))
 
-pub number_is : (own : ℕ) (f : FrameRecord) → number_in (said_to own f)
-    ≡ (if (nat_lt (source_of f.id) 254 && (ps_of f.id == own && not (own == 254))) && (pgn_of f.id == transport_data_group && length f.bytes == 8)
-    then Some (slice_index f.bytes 0) else None)
-unfolding said_to said_between said_by packed_in key_between frames.source_of frames.destination_of frames.group_of
-number_is own f = grind (arith, none_by)
+-- a frame of a session goes to one address
+pub goes_there : (f : FrameRecord) (group : ℕ) → group / 256 % 256 < 240 → pgn_of f.id ≡ group → destination_of f.id ≡ Some (ps_of f.id)
+goes_there f group e g = grind (arith, e, g)
 
--- what says nothing changes nothing
-pub quiet_step : (r : ReceiverRecord) (f : FrameRecord) (now : ℕ) (found : Bool) → said_to r.own f ≡ None
-    → recv_step r (Heard f) now found ≡ record { after = r; sends = None; delivers = None }
-unfolding recv_step takes_signal
-quiet_step r f now found e = ap (λ s. result_of r.own (frames.source_of f.id) (takes_signal (Directed (frames.source_of f.id) r.own) s now found r.session)) e
+-- one that doesn't go to an address says nothing to it
+pub not_session : (own : ℕ) (f : FrameRecord) → (destination_of f.id ≡ Some own → ⊥) → is_of_session own f ≡ false
+not_session own f n = grind (arith, n)

@@ -1,11 +1,12 @@
 -- A message in packets answers a request by the frame that makes it whole, be it to this address or to all.
-use Rattle.j39_node.proofs.Common.{[], if◌then◌else◌, ◌<◌, ◌||◌, ◌↔◌, ◌∙◌, ◌∷◌, ◌≡◌, ◌⊎◌, and_from, and_parts, Answered, ap, arith, At, Bool, Call, comes, destination_of, eq-eqb, eqb-true, false, FrameRecord, has_place, Hear, hearing, holder, in_session, inl, inr, is_coming, is_from, is_late, IsTrue, List, made_whole, MessageRecord, nat_eq, None, open_ask, OpenBroadcast, Option, packs, Question, receiver_at, Reception, reception, ReceptionRecord, RecvResult, refl, said_to, says_to, seeks, shown, Some, source_of, sym, time_heard, true, Who, whole_by, ℕ, or-true, comes_by, comes_in, found_in, IfSome, list_any, listening, not, of, subst, AreApart}
+use Rattle.j39_node.proofs.Common.{[], and_from, and_parts, Answered, ap, AreApart, arith, At, Bool, Call, comes, comes_by, comes_in, destination_of, eq-eqb, eqb-true, false, found_in, FrameRecord, Hear, hearing, holder, IfSome, if◌then◌else◌, inl, inr, is_coming, is_late, is_session_open, IsTrue, List, list_any, listening, made_whole, MessageRecord, nat_eq, None, not, of, open_ask, OpenBroadcast, Option, or-true, packs, Question, reception, refl, says_to, seeks, Session, session, Some, source_of, subst, sym, time_heard, true, Who, ℕ, ◌<◌, ◌||◌, ◌↔◌, ◌∙◌, ◌∷◌, ◌≡◌, ◌⊎◌}
 use Rattle.j39_node.specs.Hearing.{is_whole as is_full}
 use Rattle.j39_transport.specs.Frames as frames
 use Rattle.j39_node.proofs.HearingLaws.{made_is}
 use Rattle.j39_node.proofs.HearingLemmas.{Kept, Open, result_is, result_source, stands, stands_found}
 use Rattle.j39_node.proofs.ListenLemmas.{begun_open}
-use Rattle.j39_node.proofs.PacketLemmas.{quiet_step, shown_none}
+use Rattle.j39_node.proofs.ReceptionLemmas.{apart}
+use Rattle.j39_sessions.proofs.SourceLemmas.{of_group, open_of}
 
 -- ---- a message of the group, from whom was asked, answers
 
@@ -38,11 +39,6 @@ packs_to_all f e = grind (arith, e)
 
 -- ---- so it isn't one to this address
 
-pub none_whole : (own : ℕ) (lost held : Bool) (f : FrameRecord) (now : ℕ) (r : Reception) → said_to own f ≡ None → whole_by own lost held f now r ≡ None
-none_whole own true held f now r e = refl
-none_whole own false false f now r e = refl
-none_whole own false true f now r e = ap (λ (x : RecvResult). x.delivers) (quiet_step (receiver_at own r) (shown own r.session f) now (has_place r.waits) (shown_none own r.session f e))
-
 pub to_another : (own : ℕ) (d : Option ℕ) → own < 254 → d ≡ Some 255 → d ≡ Some own → ⊥
 to_another own d l e g = absurd (let z : Some 255 ≡ Some own = sym e ∙ g in let y : 255 ≡ own = cc in omega (arith, y, l))
 
@@ -52,8 +48,7 @@ seeks_from : (q : Question) (source group : ℕ) → seeks q (Some (source, grou
 seeks_from q source group e = (grind (arith, e), grind (arith, e))
 
 abbrev InSession : Who → List Call → Question → Type 0
-InSession w H q =
-    (r : ReceptionRecord) × ((reception w H).session ≡ Some r) × (r.message.source ≡ q.to) × (r.message.group ≡ q.group)
+InSession w H q = (x : Session) × (session w H q.to ≡ Some x) × (x.reception.message.group ≡ q.group)
 
 abbrev InBroadcast : Who → List Call → ℕ → Question → Type 0
 InBroadcast w H time q =
@@ -78,14 +73,17 @@ open_any p a (y ∷ xs) x e g = let h = open_any p a xs x in grind (arith, h, e,
 
 pub comes_means : (w : Who) (H : List Call) (time : ℕ) (q : Question) → open_ask H ≡ Some q → (IsTrue (comes w H time) ↔ (InSession w H q ⊎ InBroadcast w H time q))
 comes_means w H time q o = (
-  λ z. split (is_from q (in_session (reception w H).session)) (comes_in time q (listening w H).current) refl refl
-      (sym (ap (λ (x : Option Question). is_coming time x (in_session (reception w H).session) (listening w H).current) o) ∙ z),
+  λ z. split (is_session_open q.to q.group (reception w H).sessions) (comes_in time q (listening w H).current) refl refl
+      (sym (ap (λ (x : Option Question). is_coming time x (reception w H).sessions (listening w H).current) o) ∙ z),
   from,
 )
   where
-    by_session : (s : Option ReceptionRecord) → (reception w H).session ≡ s → is_from q (in_session s) ≡ true → InSession w H q
+    opens : is_session_open q.to q.group (reception w H).sessions ≡ of_group q.group (session w H q.to)
+    opens = open_of q.to q.group (reception w H).sessions (apart w H)
+
+    by_session : (s : Option Session) → session w H q.to ≡ s → of_group q.group s ≡ true → InSession w H q
     by_session None i e = absurd (cc)
-    by_session (Some r) i e = let p = and_parts (nat_eq r.message.source q.to) (nat_eq r.message.group q.group) e in (r, i, eqb-true _ _ p.0, eqb-true _ _ p.1)
+    by_session (Some x) i e = (x, i, eqb-true _ _ e)
 
     by_broadcast : comes_in time q (listening w H).current ≡ true → InBroadcast w H time q
     by_broadcast e =
@@ -94,15 +92,17 @@ comes_means w H time q o = (
         let s = seeks_from q x.0.source x.0.group p.1 in
         let l : is_late time x.0 ≡ false = (let k = p.0 in grind (arith, k)) in (x.0, x.0.source, x.1, l, s.0, s.1)
 
-    split : (a b : Bool) → is_from q (in_session (reception w H).session) ≡ a → comes_in time q (listening w H).current ≡ b → (a || b) ≡ true → InSession w H q ⊎ InBroadcast w H time q
-    split true b i j z = inl (by_session (reception w H).session refl i)
+    split : (a b : Bool) → is_session_open q.to q.group (reception w H).sessions ≡ a → comes_in time q (listening w H).current ≡ b → (a || b) ≡ true → InSession w H q ⊎ InBroadcast w H time q
+    split true b i j z = inl (by_session (session w H q.to) refl (sym opens ∙ i))
     split false true i j z = inr (by_broadcast j)
     split false false i j z = absurd (cc)
 
     from : InSession w H q ⊎ InBroadcast w H time q → IsTrue (comes w H time)
-    from (inl (r, i, g, k)) = grind arith
+    from (inl (x, i, g)) =
+        ap (λ (p : Option Question). is_coming time p (reception w H).sessions (listening w H).current) o
+        ∙ ap (λ (b : Bool). b || comes_in time q (listening w H).current) (opens ∙ (ap (of_group q.group) i ∙ eq-eqb _ _ g))
     from (inr (x, a, i, l, g, t)) =
-        ap (λ (p : Option Question). is_coming time p (in_session (reception w H).session) (listening w H).current) o
-        ∙ (ap (λ (b : Bool). is_from q (in_session (reception w H).session) || b)
+        ap (λ (p : Option Question). is_coming time p (reception w H).sessions (listening w H).current) o
+        ∙ (ap (λ (b : Bool). is_session_open q.to q.group (reception w H).sessions || b)
         (open_any (comes_by time q) a (listening w H).current x i (and_from _ _ (ap not l) (seeks_by q x.source x.group g t)))
-        ∙ or-true (is_from q (in_session (reception w H).session)))
+        ∙ or-true (is_session_open q.to q.group (reception w H).sessions))

@@ -1,5 +1,5 @@
 -- A driver's pace: what was accepted goes on, is over, or its address is lost. Broadcasts first.
-use Rattle.j39_node.proofs.Common.{Address, AreAnswered, At, Bool, Broadcast, Call, Controller, Done, Ending, FrameRecord, Is, IsAnswered, IsPaced, IsPrompt, List, Message, MessageRecord, None, NoneTold, Ok, Option, Some, TakeBroadcastEnded, TakeFrame, Who, Withdrawn, [], address_after, after, answer_to_broadcast, ap, arith, broadcast_end, broadcast_from, claimed, claims_anew, ending_of, false, frame_of, gap, goes, if◌then◌else◌, inl, inr, is_held, is_lost, is_packet, later, leb-false, leb-true, left, length, lost, message_of, moment, more, nat_le, nat_lt, next_broadcast_ended, not_both, older, open_broadcast, packet_by, packets, packets_of, packets_taken, passed, passed_in, pause, refl, rest, step, subst, suc, suc-mul, sym, tells_broadcast, true, waited_in, ℕ, ◌&&◌, ◌*◌, ◌++◌, ◌+◌, ◌-◌, ◌<◌, ◌∙◌, ◌∷◌, ◌≡◌, ◌≤◌, ◌⊎◌, cond_both, ltb-false}
+use Rattle.j39_node.proofs.Common.{[], Address, address_after, after, answer_to_broadcast, ap, AreAnswered, arith, At, Bool, Broadcast, broadcast_end, broadcast_from, Call, claimed, claims_anew, cond_both, Controller, Done, Ending, ending_of, false, frame_of, FrameRecord, gap, goes, if◌then◌else◌, inl, inr, Is, is_held, is_lost, is_packet, IsAnswered, IsPaced, IsPrompt, later, leb-false, leb-true, length, List, lost, ltb-false, Message, message_of, MessageRecord, moment, more, nat_le, nat_lt, next_broadcast_ended, None, NoneTold, not_both, Ok, older, open_broadcast, Option, packet_by, packets, packets_of, packets_taken, passed, passed_in, pause, refl, rest, Some, step, subst, suc, suc-mul, sym, TakeBroadcastEnded, TakeFrame, tells_broadcast, true, waited_in, Who, Withdrawn, ℕ, ◌&&◌, ◌*◌, ◌++◌, ◌+◌, ◌-◌, ◌<◌, ◌∙◌, ◌∷◌, ◌≡◌, ◌≤◌, ◌⊎◌}
 use Rattle.j39_node.proofs.QueueLemmas.{length_one_more}
 use Rattle.j39_node.proofs.SoundLemmas.{stays_lost, none_next, held_older, address_cases}
 use Rattle.j39_node.proofs.AnswerCases.{broadcast_accepts}

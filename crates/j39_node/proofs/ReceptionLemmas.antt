@@ -1,10 +1,14 @@
 -- What every history says of what is received in packets.
-use Rattle.j39_node.proofs.Common.{KeepsHolder, known_by, [], if◌then◌else◌, ◌&&◌, ◌++◌, ◌-◌, ◌<◌, ◌∙◌, ◌∷◌, ◌≡◌, ◌≤◌, ◌⊎◌, Abort, Acknowledgment, ap, append-nil, append_assoc, arith, asks_again, At, Bool, BroadcastAnnounce, Call, called, Claim, claim_of, claimed_again, Claims, claims_of, ClearToSend, cond_both, delivers_message, Directed, drop, false, FrameRecord, goes_on, goes_to, granted_at, grants, has_place, Hear, Heard, heard_at, heard_by, held_then, held_through, holder, holder_in, holds, inl, inr, is_claim, is_double, is_reply, is_smaller, is_taken, is_that, is_transfer, IsApart, IsHolderAfter, keeps, known, Knows, leaves, left, length, List, ltb-false, ltb-true, Message, message_of, MessageRecord, min, nat_eq, nat_lt, None, of_other, Option, Packet, partner_of, Reaction, receiver_at, ReceiverRecord, Reception, reception, ReceptionRecord, recv_step, RecvResult, refl, released_by, ReleaseTransfer, replied, RequestToSend, said_to, shown, Signal, since_by, slice_get, Some, source_of, step_at, still, subst, suc, sym, TakeFrame, taken_by, takes, takes_abort, takes_data, takes_packet, takes_request, takes_signal, takes_tick, Tick, ticked, ticked_at, time_heard, told_claims, ToSend, transport_control_group, true, Who, without, zero, ℕ, Calling, waned, calls_whom}
-use Rattle.j39_transport.specs.Reception.{begun}
+use Rattle.j39_node.proofs.Common.{[], all_replies, ap, append-nil, append_assoc, arith, At, Bool, Call, called, Calling, calls_whom, Claim, claim_of, claimed_again, Claims, claims_of, cond_both, events, false, found_by, FrameRecord, Hear, heard_at, heard_by, held_then, held_through, holder, holder_in, holds, if◌then◌else◌, inl, inr, is_claim, is_double, is_reply, is_that, is_transfer, IsHolderAfter, KeepsHolder, known, known_by, Knows, leaves, length, List, ltb-false, ltb-true, map, Message, message_of, min, nat_eq, nat_lt, None, not, of_other, of_source, Option, reception, refl, restarts, said_from, SaidReply, Session, session, sessions_after, SessionsRecord, slice_get, Some, source_of, subst, suc, sym, TakeFrame, taken_by, takes_in, time_heard, told_claims, transport_control_group, true, waned, Who, zero, ℕ, ◌&&◌, ◌++◌, ◌-◌, ◌<◌, ◌∙◌, ◌∷◌, ◌≡◌, ◌≤◌}
+use Rattle.j39_sessions.specs.Events.{Event, Leaves}
+use Rattle.j39_sessions.specs.Sessions.{AreApart, from, is_left, says as sessions_say}
+use Rattle.j39_sessions.proofs.LawLemmas.{each_apart, own_is, source_at}
+use Rattle.j39_sessions.proofs.SourceLemmas.{below, of_filter, of_kept}
 use Rattle.j39_address.proofs.HolderLemmas.{held_after, holder_push, none_above, same_holder}
 use Rattle.j39_address.proofs.NotingLemmas.{claims_of-push}
-use Rattle.j39_transport.specs.Frames as frames
 use Rattle.std.proofs.lemmas.Bool.{cases_Bool}
+use Rattle.std.proofs.lemmas.List.Elements.{All-head, All-tail}
+use Rattle.std.specs.List.{All}
 
 -- ---- since a frame
 
@@ -34,192 +38,28 @@ since_on w H call a S T h keeps on = record {
   one = (subst (λ (G : List Call). holder w (call ∷ G) a ≡ known_by w call G a) h.is keeps, h.one);
 }
 
--- ---- a reception by its cases
+-- ---- the sessions, of which each is of one source
 
--- by a frame that is taken
-pub taken_any : (P : Reception → Type 0) (a b l : Bool) (r : Reception) → (a ≡ true → P (left l r)) → (a ≡ false → P r) → (a ≡ false → P (record r { replies = drop 1 r.replies })) → P (taken_by a b l r)
-taken_any P true b l r h k m = h refl
-taken_any P false false l r h k m = k refl
-taken_any P false true l r h k m = m refl
+module _ (w : Who) (H : List Call) where
+  pub own : ((reception w H).own ≡ w.address) × ((reception w H).boxes ≡ w.sessions) × ((reception w H).most ≡ w.window)
+  own = own_is w.address w.window w.sessions (events w H)
 
--- by what is released
-pub released_all : (P : Reception → Type 0) (b : Bool) (r : Reception) → P (record r { waits = if b then None else r.waits }) → P (released_by b r)
-released_all P false r h = h
-released_all P true r h = h
+  pub apart : AreApart (reception w H).sessions
+  apart = each_apart w.address w.window w.sessions (events w H)
 
--- ---- what a step of the receiver leaves
+  pub its_source : (a : ℕ) (x : Session) → session w H a ≡ Some x → from x ≡ a
+  its_source a x e = source_at a (reception w H).sessions x e
 
--- the source of a session has this property
-abbrev pub Fits : (ℕ → Type 0) → Option ReceptionRecord → Type 0
-Fits P None = Unit {0}
-Fits P (Some r) = P r.message.source
+-- what they went through when a frame is heard by them
+abbrev pub left : Who → List Call → ℕ → FrameRecord → List Event
+left w H when f = Leaves (restarts w H when f) (holder w (At when (Hear f) ∷ H)) ∷ events w H
 
-abbrev pub Gives : (ℕ → Type 0) → Option MessageRecord → Type 0
-Gives P None = Unit {0}
-Gives P (Some m) = P m.source
-
--- an end-of-message acknowledgment is said of a message that is delivered, and of no other
-abbrev pub Acknowledges : Option Signal → Option MessageRecord → Type 0
-Acknowledges None d = d ≡ None
-Acknowledges (Some (Acknowledgment size packets pgn)) d = (m : MessageRecord) × (d ≡ Some m) × (m.pgn ≡ pgn)
-Acknowledges (Some (ClearToSend count next pgn)) d = d ≡ None
-Acknowledges (Some (Abort reason pgn)) d = d ≡ None
-Acknowledges (Some (BroadcastAnnounce size packets pgn)) d = ⊥
-Acknowledges (Some (RequestToSend size packets most pgn)) d = ⊥
-Acknowledges (Some (Packet number part)) d = ⊥
-
--- so has that of the session that stays, and of the message that is delivered; and of these there is one at most
-pub record Tame (P : ℕ → Type 0) (x : Reaction) : Type 0 where
-  pub fits : Fits P x.session
-  pub gives : Gives P x.delivers
-  pub over : (x.delivers ≡ None) ⊎ (x.session ≡ None)
-  pub acks : Acknowledges x.says x.delivers
-
-pub tame_signal : (P : ℕ → Type 0) (source own : ℕ) (s : Option Signal) (now : ℕ) (found : Bool) (o : Option ReceptionRecord) → (is_taken source o ≡ false → P source) → Fits P o
-    → Tame P (takes_signal (Directed source own) s now found o)
-unfolding takes_signal takes_data takes_abort takes_request takes_packet begun goes_on delivers_message asks_again grants granted_at
-tame_signal P source own s now found o l h = record { fits = grind (arith, l, h); gives = grind (arith, l, h); over = grind arith; acks = grind arith }
-
-pub tame_tick : (P : ℕ → Type 0) (now : ℕ) (o : Option ReceptionRecord) → Fits P o → Tame P (takes_tick now o)
-unfolding takes_tick asks_again grants granted_at
-tame_tick P now o h = record { fits = grind (arith, h); gives = grind arith; over = grind arith; acks = grind arith }
-
-abbrev pub IsBelow : ℕ → Type 0
-IsBelow a = a < 254
-
--- a step at a frame or a tick
-pub record Steps (a : ℕ) (x : RecvResult) : Type 0 where
-  pub fits : Fits IsBelow x.after.session
-  pub over : (x.delivers ≡ None) ⊎ (x.after.session ≡ None)
-  pub says : (s : ToSend) → x.sends ≡ Some s → a < 254
-
-pub heard_step : (r : ReceiverRecord) (f : FrameRecord) (now : ℕ) (found : Bool) → Fits IsBelow r.session → Steps (source_of f.id) (recv_step r (Heard f) now found)
-unfolding recv_step said_to frames.source_of takes_signal takes_data takes_abort takes_request takes_packet begun goes_on delivers_message asks_again grants granted_at
-heard_step r f now found h = record { fits = grind (arith, h); over = grind arith; says = λ s z. grind (arith, z) }
-
--- with no session, and no room, none begins
-pub record Refuses (x : RecvResult) : Type 0 where
-  pub session : x.after.session ≡ None
-  pub delivers : x.delivers ≡ None
-
-pub refused_step : (r : ReceiverRecord) (f : FrameRecord) (now : ℕ) → r.session ≡ None → Refuses (recv_step r (Heard f) now false)
-unfolding recv_step takes_signal takes_data takes_abort takes_request
-refused_step r f now e = record { session = grind (arith, e); delivers = grind (arith, e) }
-
--- ---- the replies
-
-pub record IsReply (own : ℕ) (m : Message) : Type 0 where
-  pub source : m.source ≡ own
-  pub group : m.group ≡ transport_control_group
-  pub to : ℕ
-  pub destination : m.destination ≡ Some to
-  pub address : to < 254
-
-abbrev pub AllReplies : ℕ → List Message → Type 0
-AllReplies own [] = Unit {0}
-AllReplies own (m ∷ L) = IsReply own m × AllReplies own L
-
-all_without : (own a : ℕ) (L : List Message) → AllReplies own L → AllReplies own (without a L)
-all_without own a [] h = tt
-all_without own a (m ∷ L) h = let k = all_without own a L h.1 in cond_both (goes_to a m) _ _ (AllReplies own) (λ e. k) (λ e. (h.0, k))
-
-all_more : (own : ℕ) (L : List Message) (m : Message) → AllReplies own L → IsReply own m → AllReplies own (L ++ m ∷ [])
-all_more own [] m h e = (e, tt)
-all_more own (x ∷ L) m h e = (h.0, all_more own L m h.1 e)
-
-all_replied : (own a : ℕ) (o : Option ToSend) (L : List Message) → ((s : ToSend) → o ≡ Some s → a < 254) → AllReplies own L → AllReplies own (replied own a o L)
-all_replied own a None L l h = h
-all_replied own a (Some s) L l h = cond_both (nat_lt (length (without a L)) 16) _ _ (AllReplies own)
-    (λ t. all_more own (without a L) _ (all_without own a L h) (record { source = refl; group = refl; to = a; destination = refl; address = l s refl }))
-    (λ t. all_without own a L h)
-
-all_dropped : (own : ℕ) (L : List Message) → AllReplies own L → AllReplies own (drop 1 L)
-all_dropped own [] h = tt
-all_dropped own (m ∷ L) h = h.1
-
-pub replied_get : (own : ℕ) (L : List Message) (n : ℕ) (m : Message) → AllReplies own L → slice_get L n ≡ Some m → IsReply own m
-replied_get own [] n m h e = absurd (cc)
-replied_get own (x ∷ L) zero m h e = let z : x ≡ m = cc in subst (IsReply own) z h.0
-replied_get own (x ∷ L) (suc n) m h e = replied_get own L n m h.1 e
-
--- ---- the reception
-
-pub record Tidy (own : ℕ) (r : Reception) : Type 0 where
-  pub fits : Fits IsBelow r.session
-  pub apart : IsApart r
-  pub replies : AllReplies own r.replies
-
-pub own_after : (r : ReceiverRecord) (f : FrameRecord) (now : ℕ) (found : Bool) → (recv_step r (Heard f) now found).after.own ≡ r.own
-unfolding recv_step
-own_after r f now found = refl
-
-pub tidy_left : (own : ℕ) (b : Bool) (r : Reception) → Tidy own r → Tidy own (left b r)
-tidy_left own false r h = h
-tidy_left own true r h = record { fits = tt; apart = inr refl; replies = all_without own (partner_of r.session) r.replies h.replies }
-
-apart_taken : (own : ℕ) (f : FrameRecord) (now since : ℕ) (r : Reception) → Tidy own r → IsApart (takes f.stamp since (source_of f.id) (step_at own f now r) r)
-apart_taken own f now since r h =
-    let a = h.apart in
-    let s = (heard_step (receiver_at own r) (shown own r.session f) now (has_place r.waits) h.fits).over in
-    let n = refused_step (receiver_at own r) (shown own r.session f) now in
-    grind (arith, a, s, n)
-
-tidy_heard : (own : ℕ) (lost held : Bool) (f : FrameRecord) (now : ℕ) (r : Reception) → Tidy own r → Tidy own (heard_by own lost held f now r)
-tidy_heard own true held f now r h = record { fits = tt; apart = inr refl; replies = tt }
-tidy_heard own false false f now r h = h
-tidy_heard own false true f now r h =
-    let s = heard_step (receiver_at own r) (shown own r.session f) now (has_place r.waits) h.fits in
-    record {
-      fits = s.fits;
-      apart = apart_taken own f now (since_by r.session (step_at own f now r).after.session now r.since) r h;
-      replies = subst (λ (a : ℕ). AllReplies own (replied a (source_of f.id) (step_at own f now r).sends r.replies)) (sym (own_after (receiver_at own r) (shown own r.session f) now (has_place r.waits)))
-          (all_replied own (source_of f.id) (step_at own f now r).sends r.replies s.says h.replies);
-    }
-
--- with no session, a tick begins none
-tick_none : (own now : ℕ) (r : Reception) → r.session ≡ None → (ticked_at own now r).after.session ≡ None
-unfolding recv_step takes_tick
-tick_none own now r e = grind (arith, e)
-
--- a tick delivers nothing
-pub quiet_at : (own now : ℕ) (r : Reception) → (ticked_at own now r).delivers ≡ None
-unfolding recv_step takes_tick asks_again grants
-quiet_at own now r = grind arith
-
-pub own_at : (own now : ℕ) (r : Reception) → (ticked_at own now r).after.own ≡ own
-unfolding recv_step
-own_at own now r = grind arith
-
-steps_at : (own now : ℕ) (r : Reception) → Fits IsBelow r.session → Steps (partner_of r.session) (ticked_at own now r)
-unfolding recv_step takes_tick asks_again grants granted_at
-steps_at own now r h = record { fits = grind (arith, h); over = grind arith; says = λ s z. grind (arith, h, z) }
-
-tidy_ticked : (own stamp now : ℕ) (r : Reception) → Tidy own r → Tidy own (ticked own stamp now r)
-tidy_ticked own stamp now r h =
-    let s = steps_at own now r h.fits in
-    let quiet = quiet_at own now r in
-    let none = tick_none own now r in
-    let a = h.apart in
-    record {
-      fits = s.fits;
-      apart = grind (arith, quiet, none, a);
-      replies = subst (λ (a : ℕ). AllReplies own (replied a (partner_of r.session) (ticked_at own now r).sends r.replies)) (sym (own_at own now r))
-          (all_replied own (partner_of r.session) (ticked_at own now r).sends r.replies s.says h.replies);
-    }
-
-pub tidy : (w : Who) (H : List Call) → Tidy w.address (reception w H)
-tidy w [] = record { fits = tt; apart = inl refl; replies = tt }
-tidy w (At when (Hear f) ∷ H) =
-    tidy_heard w.address (is_smaller w (claim_of f)) (holds w H when) f (time_heard (At when (Hear f) ∷ H)) _
-    (tidy_left w.address (leaves (known w H when f) (holder w (At when (Hear f) ∷ H)) (reception w H).session) (reception w H) (tidy w H))
-tidy w (At now Tick ∷ H) = tidy_ticked w.address now (time_heard (At now Tick ∷ H)) (reception w H) (tidy w H)
-tidy w (At now (TakeFrame (Some f)) ∷ H) =
-    let h = tidy w H in
-    taken_any (Tidy w.address) (is_claim f) (is_reply (reception w H).replies f) _ (reception w H) (λ e. tidy_left w.address _ (reception w H) h) (λ e. h)
-    (λ e. record { fits = h.fits; apart = h.apart; replies = all_dropped w.address (reception w H).replies h.replies })
-tidy w (ReleaseTransfer false ∷ H) = tidy w H
-tidy w (ReleaseTransfer true ∷ H) = let h = tidy w H in record { fits = h.fits; apart = inl refl; replies = h.replies }
-tidy w (call ∷ H) = tidy w H
+-- one that is found was there, and isn't left
+pub found_was : (w : Who) (H : List Call) (when : ℕ) (f : FrameRecord) (a : ℕ) (x : Session) → of_source a (found_by w H when f).sessions ≡ Some x
+    → (session w H a ≡ Some x) × (is_left (restarts w H when f) (holder w (At when (Hear f) ∷ H)) x ≡ false)
+found_was w H when f a x e =
+    of_kept (is_left (restarts w H when f) (holder w (At when (Hear f) ∷ H))) (session w H a) x
+    (sym (of_filter (λ y. not (is_left (restarts w H when f) (holder w (At when (Hear f) ∷ H)) y)) a (reception w H).sessions (apart w H)) ∙ e)
 
 -- ---- who holds an address
 
@@ -295,21 +135,54 @@ again_is w table H left c knows = ap (λ (holds : ℕ → Option ℕ). claimed_a
 pub calls_is : (w : Who) (table : Claims) (H : List Call) (f : FrameRecord) (c : Option Claim) → Knows table (told_claims w H) → calls_whom (holder_in table) f c ≡ calls_whom (holder w H) f c
 calls_is w table H f c knows = ap (λ (holds : ℕ → Option ℕ). calls_whom holds f c) (holders_are w H table knows)
 
-pub leaves_still : (w : Who) (old new : Claims) (H : List Call) (when : ℕ) (f : FrameRecord) (o : Option ReceptionRecord) → Knows old (told_claims w H) → Knows new (told_claims w (At when (Hear f) ∷ H))
-    → leaves (still (claimed_again (holder_in old) (waned (when - heard_at H) (called w H)) (claim_of f)) (holder_in old)) (holder_in new) o ≡ leaves (known w H when f) (holder w (At when (Hear f) ∷ H)) o
-leaves_still w old new H when f o k l =
-    λ i. leaves (still (claimed_again (holders_are w H old k i) (waned (when - heard_at H) (called w H)) (claim_of f)) (holders_are w H old k i)) (holders_are w (At when (Hear f) ∷ H) new l i) o
+-- those that leave
+pub leaves_still : (w : Who) (old new : Claims) (H : List Call) (when : ℕ) (f : FrameRecord) (s : SessionsRecord) → Knows old (told_claims w H) → Knows new (told_claims w (At when (Hear f) ∷ H))
+    → leaves (claimed_again (holder_in old) (waned (when - heard_at H) (called w H)) (claim_of f)) (holder_in new) s ≡ leaves (restarts w H when f) (holder w (At when (Hear f) ∷ H)) s
+leaves_still w old new H when f s k l =
+    λ i. leaves (claimed_again (holders_are w H old k i) (waned (when - heard_at H) (called w H)) (claim_of f)) (holders_are w (At when (Hear f) ∷ H) new l i) s
 
-pub leaves_is : (w : Who) (old new : Claims) (H G : List Call) (o : Option ReceptionRecord) → Knows old (told_claims w H) → Knows new (told_claims w G)
-    → leaves (holder_in old) (holder_in new) o ≡ leaves (holder w H) (holder w G) o
-leaves_is w old new H G o k l = λ i. leaves (holders_are w H old k i) (holders_are w G new l i) o
+-- ---- the replies
+
+pub record IsReply (own : ℕ) (m : Message) : Type 0 where
+  pub source : m.source ≡ own
+  pub group : m.group ≡ transport_control_group
+  pub to : ℕ
+  pub destination : m.destination ≡ Some to
+  pub address : to < 254
+
+reply_at : (own : ℕ) (L : List SaidReply) (n : ℕ) (m : Message) → All (λ x. x.to < 254) L → slice_get (map (said_from own) L) n ≡ Some m → IsReply own m
+reply_at own [] n m h e = absurd (cc)
+reply_at own (x ∷ L) zero m h e =
+    let z : said_from own x ≡ m = cc in
+    subst (IsReply own) z (record { source = refl; group = refl; to = x.to; destination = refl; address = All-head (λ x. x.to < 254) x L h })
+reply_at own (x ∷ L) (suc n) m h e = reply_at own L n m (All-tail (λ x. x.to < 254) x L h) e
+
+pub reply_of : (w : Who) (H : List Call) (n : ℕ) (m : Message) → slice_get (all_replies w H) n ≡ Some m → IsReply w.address m
+reply_of w H n m e = subst (λ (a : ℕ). IsReply a m) (own w H).0 (reply_at (reception w H).own (reception w H).replies n m (below w.address w.window w.sessions (events w H)).replies e)
 
 -- ---- a frame is taken
 
-pub taken_is : (w : Who) (H : List Call) (now : ℕ) (f : FrameRecord) (a b : Bool) → is_claim f ≡ a → is_reply (reception w H).replies f ≡ b
-    → reception w (At now (TakeFrame (Some f)) ∷ H)
-    ≡ taken_by a b (leaves (holder w H) (holder w (At now (TakeFrame (Some f)) ∷ H)) (reception w H).session) (reception w H)
-taken_is w H now f a b e g = λ i. taken_by (e i) (g i) (leaves (holder w H) (holder w (At now (TakeFrame (Some f)) ∷ H)) (reception w H).session) (reception w H)
+pub taken_is : (w : Who) (H : List Call) (now : ℕ) (f : FrameRecord) (a b : Bool) → is_claim f ≡ a → is_reply (all_replies w H) f ≡ b
+    → events w (At now (TakeFrame (Some f)) ∷ H) ≡ taken_by a b (holder w (At now (TakeFrame (Some f)) ∷ H)) (events w H)
+taken_is w H now f a b e g = λ i. taken_by (e i) (g i) (holder w (At now (TakeFrame (Some f)) ∷ H)) (events w H)
+
+-- what the events leave, by what was there before
+pub taken_in : (w : Who) (H : List Call) (when : ℕ) (f : FrameRecord) (x y : Bool)
+    → takes_in x y (time_heard (At when (Hear f) ∷ H)) (holder w (At when (Hear f) ∷ H) (source_of f.id)) f (found_by w H when f)
+    ≡ sessions_after w (heard_by x y (time_heard (At when (Hear f) ∷ H)) (holder w (At when (Hear f) ∷ H) (source_of f.id)) f (left w H when f))
+taken_in w H when f true y = refl
+taken_in w H when f false true = refl
+taken_in w H when f false false = refl
+
+abbrev pub taken_from : Bool → Bool → (ℕ → Option ℕ) → SessionsRecord → SessionsRecord
+taken_from true reply holds s = leaves None holds s
+taken_from false true holds s = sessions_say s
+taken_from false false holds s = s
+
+pub taken_is_from : (w : Who) (E : List Event) (holds : ℕ → Option ℕ) (x y : Bool) → sessions_after w (taken_by x y holds E) ≡ taken_from x y holds (sessions_after w E)
+taken_is_from w E holds true y = refl
+taken_is_from w E holds false true = refl
+taken_is_from w E holds false false = refl
 
 -- what is of no session to an address is no reply
 pub no_reply : (L : List Message) (f : FrameRecord) → is_transfer f ≡ false → is_reply L f ≡ false

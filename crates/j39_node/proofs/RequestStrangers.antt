@@ -1,32 +1,12 @@
 -- A frame of who wasn't asked, or to another address, says nothing to a request, and ends none.
-use Rattle.j39_node.proofs.Common.{if◌then◌else◌, ◌&&◌, ◌||◌, ◌∙◌, ◌∷◌, ◌≡◌, ◌≢◌, Answered, ap, arith, At, Bool, Call, claim_of, comes, destination_of, eqb-true, false, FrameRecord, has_place, Hear, Heard, holder, holds, is_acknowledgment, is_answer, is_of, is_smaller, known, leaves, left, List, made, made_of, made_whole, MessageRecord, nat_eq, next_ask_ended, None, open_ask, Option, option_map, option_or, pgn_of, Question, reaches, Reception, reception, ReceptionRecord, recv_step, refl, says_to, seeks, shown, slice_get, Some, source_of, sym, Tick, time_heard, true, Who, whole, whole_by, ℕ, and-false}
+use Rattle.j39_node.proofs.Common.{and-false, Answered, ap, arith, At, Bool, Call, claim_of, comes, destination_of, false, FrameRecord, Hear, if◌then◌else◌, is_acknowledgment, is_answer, is_of, is_smaller, List, made, made_of, made_whole, MessageRecord, nat_eq, next_ask_ended, None, open_ask, Option, option_map, option_or, pgn_of, Question, reaches, refl, says_to, seeks, slice_get, Some, source_of, sym, Tick, time_heard, Who, whole, ℕ, ◌&&◌, ◌||◌, ◌∙◌, ◌∷◌, ◌≡◌, ◌≢◌}
 use Rattle.j39_node.specs.Asking.{is_reply, said_by}
 use Rattle.j39_node.proofs.ListenLemmas.{unequal}
-use Rattle.j39_node.proofs.PacketsAnswer.{made_by_packet, none_whole, packs_to_all}
-use Rattle.j39_node.proofs.ReceptionLaws.{heard_kept, none_delivered, not_said}
-use Rattle.j39_node.proofs.ReceptionLemmas.{Gives}
-use Rattle.j39_node.proofs.StrangerLaws.{other_whole}
+use Rattle.j39_node.proofs.PacketLemmas.{not_session}
+use Rattle.j39_node.proofs.PacketsAnswer.{made_by_packet, packs_to_all}
+use Rattle.j39_node.proofs.ReceptionLaws.{none_whole, whole_source}
 
 -- ---- what a frame makes whole is of _ its source
-
-gives_source : (a : ℕ) (d : Option MessageRecord) (m : MessageRecord) → d ≡ Some m → Gives (λ b. b ≡ a) d → m.source ≡ a
-gives_source a d m e f = grind (arith, e, f)
-
-delivered_source : (own : ℕ) (f : FrameRecord) (now : ℕ) (found : Bool) (o : Option ReceptionRecord) (m : MessageRecord)
-    → (recv_step (record { own = own; session = o }) (Heard f) now found).delivers ≡ Some m → m.source ≡ source_of f.id
-delivered_source own f now found None m e =
-    absurd (let z : None ≡ Some m = sym (none_delivered (record { own = own; session = None }) f now found refl) ∙ e in cc)
-delivered_source own f now found (Some x) m e = go (nat_eq (source_of f.id) x.message.source) refl
-  where
-    go : (b : Bool) → nat_eq (source_of f.id) x.message.source ≡ b → m.source ≡ source_of f.id
-    go true i =
-        gives_source x.message.source (recv_step (record { own = own; session = Some x }) (Heard f) now found).delivers m e (heard_kept own x f now found).gives
-        ∙ sym (eqb-true _ _ i)
-    go false i = absurd (let z : None ≡ Some m = sym (other_whole own f now found x i) ∙ e in cc)
-
-whole_source : (own : ℕ) (lost held : Bool) (f : FrameRecord) (now : ℕ) (r : Reception) (m : MessageRecord) → whole_by own lost held f now r ≡ Some m → m.source ≡ source_of f.id
-whole_source own false true f now r m e = delivered_source own (shown own r.session f) now (has_place r.waits) r.session m e
-whole_source own lost held f now r m e = absurd (cc)
 
 made_source : (w : Who) (H : List Call) (when : ℕ) (f : FrameRecord) (x : ℕ × ℕ) → made w H when f ≡ Some x → x.0 ≡ source_of f.id
 made_source w H when f x e = go (whole w H when f) (made_whole w H when f) refl refl e
@@ -35,7 +15,7 @@ made_source w H when f x e = go (whole w H when f) (made_whole w H when f) refl 
         → option_or (made_of a) (made_of (option_map (λ (y : ℕ × MessageRecord). y.1) b)) ≡ Some x → x.0 ≡ source_of f.id
     go (Some m) b i k z =
         let y : (m.source, m.pgn) ≡ x = cc in
-        ap (λ (u : ℕ × ℕ). u.0) (sym y) ∙ whole_source w.address (is_smaller w (claim_of f)) (holds w H when) f (time_heard (At when (Hear f) ∷ H)) (left (leaves (known w H when f) (holder w (At when (Hear f) ∷ H)) (reception w H).session) (reception w H)) m i
+        ap (λ (u : ℕ × ℕ). u.0) (sym y) ∙ whole_source w H when f m i
     go None (Some p) i k z = let y : (p.1.source, p.1.pgn) ≡ x = cc in ap (λ (u : ℕ × ℕ). u.0) (sym y) ∙ (made_by_packet w H when f p k).1
     go None None i k z = absurd (cc)
 
@@ -69,10 +49,7 @@ to_another w H when f q a d n m =
     unreached = grind arith
 
     none_to : whole w H when f ≡ None
-    none_to =
-        none_whole w.address (is_smaller w (claim_of f)) (holds w H when) f (time_heard (At when (Hear f) ∷ H))
-        (left (leaves (known w H when f) (holder w (At when (Hear f) ∷ H)) (reception w H).session) (reception w H))
-        (not_said w.address f (elsewhere w.address m))
+    none_to = none_whole w H when f (not_session w.address f (elsewhere w.address m))
 
     none_cast : made_whole w H when f ≡ None
     none_cast = go (made_whole w H when f) refl

@@ -1,9 +1,6 @@
 -- A restart is met.
-use Rattle.j39_node.proofs.Common.{and_parts, [], if◌then◌else◌, ◌&&◌, ◌++◌, ◌+◌, ◌-◌, ◌<◌, ◌||◌, ◌↔◌, ◌∙◌, ◌∷◌, ◌≡◌, ◌≢◌, ◌≤◌, ap, arith, At, Bool, Call, called, Claim, claim_of, claimed_again, eq-eqb, eqb-true, false, FrameRecord, has_place, Hear, heard_at, heard_by, held_then, holder, is_claim, is_message, is_same, KeepsHolder, known, left, List, moment, nat_eq, None, of_other, Option, passed_in, Reception, refl, restarts, said_to, Some, step, still, sym, TakeFrame, Tick, true, Who, ℕ, Calling, waned, called_for, calls_whom, taken_whom, is_called, not}
+use Rattle.j39_node.proofs.Common.{[], after, ap, arith, At, Bool, Call, called, called_for, Calling, calls_whom, Claim, claim_of, claimed_again, eq-eqb, false, FrameRecord, Hear, heard_at, held_then, holder, holds, if◌then◌else◌, is_called, is_claim, is_message, is_same, KeepsHolder, known, later, List, moment, nat_eq, None, not, of_other, Option, passed_in, refl, restarts, Some, step, still, sym, TakeFrame, taken_whom, Tick, true, waned, Who, ℕ, ◌&&◌, ◌++◌, ◌+◌, ◌-◌, ◌<◌, ◌||◌, ◌↔◌, ◌∙◌, ◌∷◌, ◌≡◌, ◌≢◌, ◌≤◌}
 use Rattle.std.proofs.lemmas.Bool.{ne_eqb}
-use Rattle.std.proofs.lemmas.Option.{cond_some}
-use Rattle.j39_node.proofs.PacketLemmas.{quiet_step}
-use Rattle.j39_node.proofs.ReceptionLaws.{unsaid as unsaid_by}
 
 means_by : (holds : ℕ → Option ℕ) (k : Calling) (a : ℕ) (o : Option Claim)
     → (claimed_again holds k o ≡ Some a ↔ ((c : Claim) × (o ≡ Some c) × (c.address ≡ a) × (holds a ≡ Some c.name) × (is_called a k ≡ false)))
@@ -29,14 +26,6 @@ gone w H when a f e =
 
 pub left_by : (w : Who) (H : List Call) (when a : ℕ) (f : FrameRecord) → restarts w H when f ≡ Some a → is_same (known w H when f a) (holder w (At when (Hear f) ∷ H) a) ≡ false
 left_by w H when a f e = let g = gone w H when a f e in λ i. is_same (g.0 i) (g.1.1 i)
-
--- ---- what ends
-
-pub unsaid : (own : ℕ) (f : FrameRecord) (c : Claim) → claim_of f ≡ Some c → said_to own f ≡ None
-unsaid own f c e = unsaid_by own f (eqb-true _ _ (and_parts _ _ (and_parts _ _ (cond_some _ _ c e).0).0).0)
-
-pub ends_by : (own : ℕ) (lost held b : Bool) (f : FrameRecord) (now : ℕ) (r : Reception) → b ≡ true → said_to own f ≡ None → (heard_by own lost held f now (left b r)).session ≡ None
-ends_by own lost held b f now r e n = let q = quiet_step (record { own = own; session = None }) f now (has_place r.waits) n in grind (arith, e, q)
 
 pub differs : (w : Who) (H : List Call) (when a : ℕ) (f : FrameRecord) → restarts w H when f ≡ Some a → holder w (At when (Hear f) ∷ H) a ≢ known w H when f a
 differs w H when a f e same = let g = gone w H when a f e in absurd (let z : Some g.1.0 ≡ None = sym g.1.1 ∙ (same ∙ g.0) in cc)

@@ -1,8 +1,8 @@
 -- What every answered history says of what was accepted, sent and told.
-use Rattle.j39_node.proofs.Common.{Acknowledge, Address, Again, Answer, AreAnswered, Ask, Asked, At, Bool, Call, Done, Draft, Ending, FrameRecord, Hear, IsAnswered, IsFront, IsTrue, List, Lost, Message, MessageRecord, Move, None, Ok, Option, Question, Ready, Renew, Reply, Send, Single, Some, TakeAskEnded, TakeEnded, TakeFrame, TakeReceived, TakeRequest, Turn, Who, Withdraw, Withdrawn, [], accepted, acknowledged, acknowledgment, acknowledgment_group, address_after, address_claimed_group, and-false, and-true, and_parts, answer_to_ask, ap, append_assoc, arith, asked, blank, bytes_eq-Decides, can_ask, can_send, claim_address, claim_due, claim_from, claim_goes, claim_of, claimed, clock_at, content, control_of, destination_of, drop, due, end_of, eq-eqb, eqb-true, false, frame_of, fresh, gives_way, got, handed, has_packets, holds, if◌then◌else◌, inl, inr, is_acknowledgment, is_apart, is_blank, is_claim, is_held, is_left, is_lost, is_move, is_own_group, is_packet, is_refusal_due, is_same, is_sendable, is_served, is_session, is_smaller, is_some, is_that, is_there, is_transfer, is_turn, kept, latest, leb-true, left, length, length-append, length-set, lost, ltb-false, ltb-true, map, map-set, marks, max, may_go, message_from, message_of, moment, nat_eq, nat_le, nat_lt, next_acknowledgment, next_ended, next_frame, next_other, next_packet, next_renewed, next_transfer, next_turn, next_withdrawn, not, not-true, older, open_ask, open_broadcast, open_transfer, option_map, or_parts, other, packet_by, packets, packets_of, past, pause, pgn_of, question, reached, ready, reception, refl, request_for, request_group, requests, sent, slice_get, slice_get-map, slice_get_past, slice_get_within, slice_set, source_of, stamped, step, subst, suc, sym, take, take-append-le, take-set-le, told, transport_control_group, transport_data_group, true, turn_frame, turn_of, turns, unblanked, unclaimed, with_refusal, with_request, yields, zero, ℕ, ◌&&◌, ◌++◌, ◌-◌, ◌<◌, ◌||◌, ◌∙◌, ◌∷◌, ◌≡◌, ◌≤◌, ◌⊎◌, cases_Bool, or_from, map-append, none-some, some_pair_parts, length-map, false_from_ne_true, not_both, ending_of, ◌↔◌, cond_both, cond_some, claims_anew, All, All-nil, All-push, All-set}
+use Rattle.j39_node.proofs.Common.{[], accepted, Acknowledge, acknowledged, acknowledgment, acknowledgment_group, Address, address_after, address_claimed_group, Again, All, All-nil, All-push, All-set, all_replies, and-false, and-true, and_parts, Answer, answer_to_ask, ap, append_assoc, AreAnswered, arith, Ask, Asked, asked, At, blank, Bool, bytes_eq-Decides, Call, can_ask, can_send, cases_Bool, claim_address, claim_due, claim_from, claim_goes, claim_of, claimed, claims_anew, clock_at, cond_both, cond_some, content, control_of, destination_of, Done, Draft, drop, due, end_of, Ending, ending_of, eq-eqb, eqb-true, false, false_from_ne_true, frame_of, FrameRecord, fresh, gives_way, got, handed, has_packets, Hear, holds, if◌then◌else◌, inl, inr, is_acknowledgment, is_apart, is_blank, is_claim, is_held, is_left, is_lost, is_move, is_own_group, is_packet, is_refusal_due, is_same, is_sendable, is_served, is_session, is_smaller, is_some, is_that, is_there, is_transfer, is_turn, IsAnswered, IsFront, IsTrue, kept, latest, leb-true, length, length-append, length-map, length-set, List, Lost, lost, ltb-false, ltb-true, map, map-append, map-set, marks, max, may_go, Message, message_from, message_of, MessageRecord, moment, Move, nat_eq, nat_le, nat_lt, next_acknowledgment, next_ended, next_frame, next_other, next_packet, next_renewed, next_transfer, next_turn, next_withdrawn, None, none-some, not, not-true, not_both, Ok, older, open_ask, open_broadcast, open_transfer, Option, option_map, or_from, or_parts, other, packet_by, packets, packets_of, past, pause, pgn_of, Question, question, reached, Ready, ready, refl, Renew, Reply, request_for, request_group, requests, Send, sent, Single, slice_get, slice_get-map, slice_get_past, slice_get_within, slice_set, Some, some_pair_parts, source_of, stamped, step, subst, suc, sym, take, take-append-le, take-set-le, TakeAskEnded, TakeEnded, TakeFrame, TakeReceived, TakeRequest, told, transport_control_group, transport_data_group, true, Turn, turn_frame, turn_of, turns, unblanked, unclaimed, Who, with_refusal, with_request, Withdraw, Withdrawn, yields, zero, ℕ, ◌&&◌, ◌++◌, ◌-◌, ◌<◌, ◌||◌, ◌↔◌, ◌∙◌, ◌∷◌, ◌≡◌, ◌≤◌, ◌⊎◌}
 use Rattle.j39_node.specs.declared.turn.Turn.TheVariants.{Packet}
 use Rattle.j39_node.proofs.WithdrawLemmas.{get_front, stops_append, past_more, next_false, past_stops, past_within, set_same, unblanked_more, unblanked_past, unpassed}
-use Rattle.j39_node.proofs.ReceptionLemmas.{IsReply, replied_get, tidy}
+use Rattle.j39_node.proofs.ReceptionLemmas.{IsReply, reply_of}
 use Rattle.j39_node.proofs.AnswerCases.{ask_accepts, send_accepts, sendable}
 use Rattle.j39_node.proofs.PortLemmas.{ported, said_case}
 use Rattle.j39_node.proofs.QueueLemmas.{get_append, length_one_more, get_last, all_at}
@@ -58,7 +58,7 @@ pub data FrameCase (w : Who) (H : List Call) (now : ℕ) (f : FrameRecord) : Typ
   acknowledges : (m : Message) → claim_goes w H now ≡ false → holds w H now ≡ true → slice_get (due w H) (length (acknowledged H)) ≡ Some m
       → stamped f ≡ (now, m) → gives_way w H now ≡ false → FrameCase w H now f
   replies : (m : Message) → claim_goes w H now ≡ false → holds w H now ≡ true → IsNext w H now Reply
-      → slice_get (reception w H).replies 0 ≡ Some m → stamped f ≡ (now, m) → FrameCase w H now f
+      → slice_get (all_replies w H) 0 ≡ Some m → stamped f ≡ (now, m) → FrameCase w H now f
   sends : (x : ℕ × Message) → claim_goes w H now ≡ false → holds w H now ≡ true → IsNext w H now Single
       → slice_get (accepted w H) (reached H) ≡ Some x → stamped f ≡ (now, x.1) → FrameCase w H now f
   packs : (m : Message) → claim_goes w H now ≡ false → holds w H now ≡ true → IsNext w H now Packet
@@ -74,7 +74,7 @@ pub frame_case : (w : Who) (H : List Call) (now : ℕ) (f : FrameRecord) → Som
 frame_case w H now f e = go (claim_goes w H now) (holds w H now) (next_acknowledgment w H now) refl refl refl e
   where
     by : (t : Option Turn) (r : Option Message) (o : Option (ℕ × Message)) (y z : Option Message) → claim_goes w H now ≡ false → holds w H now ≡ true
-        → next_acknowledgment w H now ≡ None → next_turn w H now ≡ t → slice_get (reception w H).replies 0 ≡ r
+        → next_acknowledgment w H now ≡ None → next_turn w H now ≡ t → slice_get (all_replies w H) 0 ≡ r
         → slice_get (accepted w H) (reached H) ≡ o → next_packet w H now ≡ y → next_transfer w H now ≡ z
         → Some (stamped f) ≡ option_map (λ m. (now, m)) (turn_frame t r o y z) → FrameCase w H now f
     by (Some Reply) (Some m) o y z p q n t a b c d i = replies m p q (n, t) a (let u : stamped f ≡ (now, m) = cc in u)
@@ -181,7 +181,7 @@ apart_none o a e f = grind (arith, e, f)
 
 -- not-true reply, not-true message, and not-true frame of the open broadcast
 pub record Rest (w : Who) (H : List Call) (now : ℕ) : Type 0 where
-  pub reply : slice_get (reception w H).replies 0 ≡ None
+  pub reply : slice_get (all_replies w H) 0 ≡ None
   pub message : slice_get (accepted w H) (reached H) ≡ None
   pub packet : next_packet w H now ≡ None
 
@@ -207,14 +207,14 @@ frame_there w H now = go (next_turn w H now) (turned w H now _ refl) _ _ _ _ ref
     due_packet e = not_there _ (packet_there (open_broadcast w H) (length (packets H)) (pause H - step H now) ∙ e)
 
     go : (t : Option Turn) → IsTurn (yields w H) (ready w H now) t → (r : Option Message) (o : Option (ℕ × Message)) (y z : Option Message)
-        → slice_get (reception w H).replies 0 ≡ r → slice_get (accepted w H) (reached H) ≡ o → next_packet w H now ≡ y → next_transfer w H now ≡ z
+        → slice_get (all_replies w H) 0 ≡ r → slice_get (accepted w H) (reached H) ≡ o → next_packet w H now ≡ y → next_transfer w H now ≡ z
         → is_turn t ≡ is_there (turn_frame t r o y z)
     go None h r o y z a b c d = refl
-    go (Some Reply) h r o y z a b c d = there r (λ e. some_at (reception w H).replies 0 h.0 (a ∙ e))
+    go (Some Reply) h r o y z a b c d = there r (λ e. some_at (all_replies w H) 0 h.0 (a ∙ e))
     go (Some Single) h r o y z a b c d = there_sent o (λ e. some_at (accepted w H) (reached H) h.0 (b ∙ e))
     go (Some Packet) (inl h) r o y z a b c d = there y (λ e. due_packet (overdue_due (has_packets w H) (pause H - step H now) h) (c ∙ e))
     go (Some Packet) (inr h) r o y z a b c d = there y (λ e. due_packet h.0 (c ∙ e))
-    go (Some Move) h r o y z a b c d = there z (λ e. apart_there (next_transfer w H now) (slice_get (reception w H).replies 0) h.1 (d ∙ e))
+    go (Some Move) h r o y z a b c d = there z (λ e. apart_there (next_transfer w H now) (slice_get (all_replies w H) 0) h.1 (d ∙ e))
 
 -- where none of it goes, none is due
 pub none_other : (w : Who) (H : List Call) (now : ℕ) → other w H now ≡ None → Rest w H now × (next_transfer w H now ≡ None)
@@ -222,9 +222,9 @@ none_other w H now e = go (next_turn w H now) (turned w H now _ refl) (frame_the
   where
     go : (t : Option Turn) → IsTurn (yields w H) (ready w H now) t → is_turn t ≡ false → Rest w H now × (next_transfer w H now ≡ None)
     go None h f =
-        let r = none_at (reception w H).replies 0 h.2 in
+        let r = none_at (all_replies w H) 0 h.2 in
         let n = nothing_else w H now h.0 in
-        (record { reply = r; message = n.0; packet = n.1 }, apart_none (next_transfer w H now) (slice_get (reception w H).replies 0) r h.1)
+        (record { reply = r; message = n.0; packet = n.1 }, apart_none (next_transfer w H now) (slice_get (all_replies w H) 0) r h.1)
     go (Some t) h f = absurd (cc)
 
 -- and where none is due, none goes
@@ -266,7 +266,7 @@ next_is w H now a o e f g k = λ i. frame_by (e i) (f i) (g i) (k i) (claim_from
 
 -- the frame of whose turn it is
 pub other_is : (w : Who) (H : List Call) (now : ℕ) (t : Option Turn) → next_turn w H now ≡ t
-    → other w H now ≡ turn_frame t (slice_get (reception w H).replies 0) (slice_get (accepted w H) (reached H)) (next_packet w H now) (next_transfer w H now)
+    → other w H now ≡ turn_frame t (slice_get (all_replies w H) 0) (slice_get (accepted w H) (reached H)) (next_packet w H now) (next_transfer w H now)
 other_is w H now t e = grind (arith, e)
 
 -- what a frame is that is taken is what goes next
@@ -351,19 +351,22 @@ that_same m = λ i. eq-eqb m.group m.group refl i && (same_address m.destination
     same_address o = grind arith
 
 -- the first reply is none of the open transfer
-pub reply_is : (w : Who) (H : List Call) (f : FrameRecord) (m : Message) → slice_get (reception w H).replies 0 ≡ Some m → message_of f ≡ m
-    → is_that (message_of f) (slice_get (reception w H).replies 0) ≡ true
+pub reply_is : (w : Who) (H : List Call) (f : FrameRecord) (m : Message) → slice_get (all_replies w H) 0 ≡ Some m → message_of f ≡ m
+    → is_that (message_of f) (slice_get (all_replies w H) 0) ≡ true
 reply_is w H f m e i = ap (is_that (message_of f)) e ∙ (ap (λ x. is_that x (Some m)) i ∙ that_same m)
 
-pub reply_no_move : (w : Who) (H : List Call) (f : FrameRecord) (m : Message) → slice_get (reception w H).replies 0 ≡ Some m → message_of f ≡ m → is_move w H f ≡ false
+pub reply_no_move : (w : Who) (H : List Call) (f : FrameRecord) (m : Message) → slice_get (all_replies w H) 0 ≡ Some m → message_of f ≡ m → is_move w H f ≡ false
 reply_no_move w H f m e i = ap (λ (b : Bool). is_transfer f && not b) (reply_is w H f m e i) ∙ and-false (is_transfer f)
 
 -- one of the open transfer that goes apart from it is not-true reply
 pub apart_is : (w : Who) (H : List Call) (now : ℕ) (f : FrameRecord) (m : Message) → next_transfer w H now ≡ Some m → message_of f ≡ m
-    → (ready w H now).transfer ≡ true → is_that (message_of f) (slice_get (reception w H).replies 0) ≡ false
-apart_is w H now f m e g i = grind (arith, e, g, i)
+    → (ready w H now).transfer ≡ true → is_that (message_of f) (slice_get (all_replies w H) 0) ≡ false
+apart_is w H now f m e g i = is_apart_of (next_transfer w H now) (slice_get (all_replies w H) 0) m (message_of f) e g i
+  where
+    is_apart_of : (o r : Option Message) (m n : Message) → o ≡ Some m → n ≡ m → is_apart o r ≡ true → is_that n r ≡ false
+    is_apart_of o r m n e g i = ap (λ (x : Message). is_that x r) g ∙ not-true _ (sym (ap (λ (p : Option Message). is_apart p r) e) ∙ i)
 
-pub is_moved : (w : Who) (H : List Call) (f : FrameRecord) → is_transfer f ≡ true → is_that (message_of f) (slice_get (reception w H).replies 0) ≡ false → is_move w H f ≡ true
+pub is_moved : (w : Who) (H : List Call) (f : FrameRecord) → is_transfer f ≡ true → is_that (message_of f) (slice_get (all_replies w H) 0) ≡ false → is_move w H f ≡ true
 is_moved w H f e g = λ i. e i && not (g i)
 
 -- what a frame of the open transfer is
@@ -624,7 +627,7 @@ sound_frame w H now f right (acknowledges m owes held g e way) h =
     sound_beside w H now f false true _ k.0 k.1 k.2 refl
     (subst (λ (y : Message). IsFront (acknowledged H ++ y ∷ []) (due w H)) (sym (ap content e)) (front_longer (acknowledged H) (due w H) m h.desk.1 g)) h
 sound_frame w H now f right (replies m owes held none g e) h =
-    let k = reply_taken w.address f now m e (replied_get w.address (reception w H).replies 0 m (tidy w H).replies g) in
+    let k = reply_taken w.address f now m e (reply_of w H 0 m g) in
     sound_beside w H now f false false true k.0 k.1 k.2 refl h.desk.1 h
 sound_frame w H now f right (sends x owes held none g e) h =
     let own = own_taken w f now x e (next_own w H x h g) in sound_send w H now f x own.0 own.1 own.2 held g e h

@@ -1,5 +1,5 @@
 -- That every transfer ends, to a driver that takes one frame at least in each g.
-use Rattle.j39_node.proofs.Common.{AreAnswered, At, Bool, Call, Controller, FrameRecord, Is, IsSteady, List, Message, None, NoneTold, Ok, Option, Reply, Some, TakeFrame, Transfer, TransferEnding, Who, ap, arith, broadcast_from, counts_for, destination_of, due, false, if◌then◌else◌, is_acknowledgment, is_apart, is_claim, is_move, is_reply, is_same, is_some, is_there, is_transfer, later, moment, next_other, next_transfer, next_transfer_ended, not_both, others, packets_of, passed_in, ready, reception, refl, since_take, slice_get, step, subst, suc, sym, taken_for, tells_transfer, timer_t3, true, turns, yields, ℕ, ◌&&◌, ◌*◌, ◌++◌, ◌+◌, ◌<◌, ◌||◌, ◌∙◌, ◌∷◌, ◌≡◌, ◌≤◌}
+use Rattle.j39_node.proofs.Common.{all_replies, ap, AreAnswered, arith, At, Bool, broadcast_from, Call, Controller, counts_for, destination_of, due, false, FrameRecord, if◌then◌else◌, Is, is_acknowledgment, is_apart, is_claim, is_move, is_reply, is_same, is_some, is_there, is_transfer, IsSteady, later, List, Message, moment, next_other, next_transfer, next_transfer_ended, None, NoneTold, not_both, Ok, Option, others, packets_of, passed_in, ready, refl, Reply, since_take, slice_get, Some, step, subst, suc, sym, TakeFrame, taken_for, tells_transfer, timer_t3, Transfer, TransferEnding, true, turns, Who, yields, ℕ, ◌&&◌, ◌*◌, ◌++◌, ◌+◌, ◌<◌, ◌||◌, ◌∙◌, ◌∷◌, ◌≡◌, ◌≤◌, and_parts, not-false, nat_eq}
 use Rattle.j39_node.proofs.KindLemmas.{kind_by, moves_it, of_session_it, packs_it, replies_it, steers_it}
 use Rattle.j39_node.proofs.EndLaws.{DueTo, Pace, begins, counts_is, ends_then}
 use Rattle.j39_node.proofs.EndSteps.{times_more}
@@ -21,7 +21,7 @@ data Kind (w : Who) (to : ℕ) (H : List Call) (now : ℕ) (f : FrameRecord) (is
   answered : turns (At now (TakeFrame (Some f)) ∷ H) ≡ 0 → counts_for to f ≡ false → yields w (At now (TakeFrame (Some f)) ∷ H) ≡ true
       → (is_due → yields w H ≡ false) → Kind w to H now f is_due
 
-yields_is : (w : Who) (H : List Call) (now : ℕ) (f : FrameRecord) (a b : Bool) → (is_claim f || is_acknowledgment f) ≡ a → is_reply (reception w H).replies f ≡ b
+yields_is : (w : Who) (H : List Call) (now : ℕ) (f : FrameRecord) (a b : Bool) → (is_claim f || is_acknowledgment f) ≡ a → is_reply (all_replies w H) f ≡ b
     → yields w (At now (TakeFrame (Some f)) ∷ H) ≡ (if a then yields w H else b)
 yields_is w H now f a b x y = λ i. if x i then yields w H else y i
 
@@ -34,7 +34,7 @@ steered_by w to H now f right c e k =
     let a = steers_it w H now f right c ∙ e in
     let t = no_transfer f (of_session_it w H now f right c ∙ k) in
     steered (λ d. few_turns w H now f c (due_there w to H now d) (steers w H now f right c) a) (turns_then H now f true a) (counts_is to f true false _ a t refl)
-    (yields_is w H now f true false a (no_reply (reception w H).replies f t))
+    (yields_is w H now f true false a (no_reply (all_replies w H) f t))
 
 kind_of : (w : Who) (to : ℕ) (H : List Call) (now : ℕ) (f : FrameRecord) → AreAnswered w H → FrameCase w H now f → is_move w H f ≡ false
     → Kind w to H now f (DueTo w to H now)
@@ -60,8 +60,15 @@ kind_of w to H now f right (replies m o h n g e) away = go (is_some (destination
         same_to : (p q : Option ℕ) → is_same p q ≡ true → p ≡ Some to → is_some q to ≡ true
         same_to p q e f = grind (arith, e, f)
 
-        apart : is_apart (next_transfer w H now) (slice_get (reception w H).replies 0) ≡ false → ⊥
-        apart z = grind (arith, z)
+        same_as : (t r : Option Message) (p q : Message) → t ≡ Some p → p.destination ≡ Some to → r ≡ Some q → is_apart t r ≡ false → is_some q.destination to ≡ true
+        same_as t r p q i k j z =
+            let that = and_parts (nat_eq p.group q.group) _ (not-false _ (sym (λ n. is_apart (i n) (j n)) ∙ z)) in
+            same_to p.destination q.destination (and_parts (is_same p.destination q.destination) _ that.1).0 k
+
+        apart : is_apart (next_transfer w H now) (slice_get (all_replies w H) 0) ≡ false → ⊥
+        apart z =
+            let y = same_as (next_transfer w H now) (slice_get (all_replies w H) 0) d.1.0 m d.1.1 d.1.2 g z in
+            let u : false ≡ true = sym x ∙ (ap (λ (o : Option ℕ). is_some o to) there ∙ y) in absurd (cc)
 
         by : (y : Bool) → (y && ((ready w H now).message || ((ready w H now).packet || (ready w H now).transfer))) ≡ false → y ≡ false
         by false z = refl

@@ -1,5 +1,5 @@
 -- A driver that takes one frame at least in each g: how long a frame of a broadcast and a message wait, whoever asks.
-use Rattle.j39_node.proofs.Common.{AreAnswered, At, Bool, Broadcast, Call, Controller, Ending, FrameRecord, Is, IsAnswered, IsPrompt, IsSteady, IsTrue, List, Message, MessageRecord, Move, None, NoneTold, Ok, Option, Reply, Single, Some, StaysFirst, TakeFrame, Who, [], accepted, add-mul, address_after, and_from, and_parts, ap, arith, broadcast_from, claims_anew, eq-eqb, false, gives_way, has_packets, holds, if◌then◌else◌, inl, inr, is_acknowledgment, is_claim, is_held, is_left, is_lost, is_overdue, is_packet, is_reply, is_there, kept, later, leb-false, length, lt-ltb, marks, moment, nat_eq, nat_le, next_broadcast_ended, next_ended, next_other, not, not-true, not_both, open_broadcast, or_parts, other, others, packets, packets_of, packets_taken, passed_in, pause, quiet, reached, ready, reception, refl, since_take, slice_get, step, subst, suc, suc-mul, sym, takes_reply, tells_broadcast, told, true, turns, waited_in, yields, zero, ℕ, ◌*◌, ◌++◌, ◌+◌, ◌-◌, ◌<◌, ◌||◌, ◌∙◌, ◌∷◌, ◌≡◌, ◌≤◌, ◌⊎◌, mul-add, cases_lt}
+use Rattle.j39_node.proofs.Common.{[], accepted, add-mul, address_after, all_replies, and_from, and_parts, ap, AreAnswered, arith, At, Bool, Broadcast, broadcast_from, Call, cases_lt, claims_anew, Controller, Ending, eq-eqb, false, FrameRecord, gives_way, has_packets, holds, if◌then◌else◌, inl, inr, Is, is_acknowledgment, is_claim, is_held, is_left, is_lost, is_overdue, is_packet, is_reply, is_there, IsAnswered, IsPrompt, IsSteady, IsTrue, kept, later, leb-false, length, List, lt-ltb, marks, Message, MessageRecord, moment, Move, mul-add, nat_eq, nat_le, next_broadcast_ended, next_ended, next_other, None, NoneTold, not, not-true, not_both, Ok, open_broadcast, Option, or_parts, other, others, packets, packets_of, packets_taken, passed_in, pause, quiet, reached, ready, refl, Reply, since_take, Single, slice_get, Some, StaysFirst, step, subst, suc, suc-mul, sym, TakeFrame, takes_reply, tells_broadcast, told, true, turns, waited_in, Who, yields, zero, ℕ, ◌*◌, ◌++◌, ◌+◌, ◌-◌, ◌<◌, ◌||◌, ◌∙◌, ◌∷◌, ◌≡◌, ◌≤◌, ◌⊎◌}
 use Rattle.j39_node.proofs.EndSteps.{times_more}
 use Rattle.j39_node.proofs.WithdrawLemmas.{past_more}
 use Rattle.j39_node.proofs.LaneLaws.{overdue_goes_by, held_then, packed_by}
@@ -342,12 +342,12 @@ module _ (w : Who) (later earlier : List Call) (c : Controller) (g k : ℕ) (is 
 -- ---- how long a reply waits
 
 -- one that waits is due
-reply_there : (w : Who) (H : List Call) (now : ℕ) (m : Message) → holds w H now ≡ true → slice_get (reception w H).replies 0 ≡ Some m → is_there (next_other w H now) ≡ true
+reply_there : (w : Who) (H : List Call) (now : ℕ) (m : Message) → holds w H now ≡ true → slice_get (all_replies w H) 0 ≡ Some m → is_there (next_other w H now) ≡ true
 reply_there w H now m h first = there_by w H now h (λ e. (let z : Some m ≡ None = sym first ∙ (none_other w H now e).0.reply in absurd (cc)))
 
 -- of what is due beside an overdue frame nothing goes before it but behind another
-behind : (w : Who) (H : List Call) (now : ℕ) (m : Message) → slice_get (reception w H).replies 0 ≡ Some m → ((ready w H now).reply ≡ false) ⊎ (yields w H ≡ true) → yields w H ≡ true
-behind w H now m first (inl e) = absurd (let z : Some m ≡ None = sym first ∙ none_at (reception w H).replies 0 e in cc)
+behind : (w : Who) (H : List Call) (now : ℕ) (m : Message) → slice_get (all_replies w H) 0 ≡ Some m → ((ready w H now).reply ≡ false) ⊎ (yields w H ≡ true) → yields w H ≡ true
+behind w H now m first (inl e) = absurd (let z : Some m ≡ None = sym first ∙ none_at (all_replies w H) 0 e in cc)
 behind w H now m first (inr e) = e
 
 module _ (w : Who) (B : List Call) (g : ℕ) (m : Message) where
@@ -358,8 +358,8 @@ module _ (w : Who) (B : List Call) (g : ℕ) (m : Message) where
     pub late : passed_in later B ≤ others * (3 * g) + turn_time g (turns (later ++ B)) + since_take later B
 
   before : (now : ℕ) (f : FrameRecord) (later : List Call) → AreAnswered w (later ++ B) → FrameCase w (later ++ B) now f
-      → since_take later B + step (later ++ B) now ≤ g → slice_get (reception w (later ++ B)).replies 0 ≡ Some m
-      → is_reply (reception w (later ++ B)).replies f ≡ false → is_held (address_after w (later ++ B)) ≡ true → Before later
+      → since_take later B + step (later ++ B) now ≤ g → slice_get (all_replies w (later ++ B)) 0 ≡ Some m
+      → is_reply (all_replies w (later ++ B)) f ≡ false → is_held (address_after w (later ++ B)) ≡ true → Before later
       → Before (At now (TakeFrame (Some f)) ∷ later)
   before now f later right case p first untaken held b = go case
     where
@@ -409,7 +409,7 @@ module _ (w : Who) (B : List Call) (g : ℕ) (m : Message) where
   Replying later = Fate (address_after w (later ++ B)) ⊥ (Before later)
 
   reply_later : (call : Call) (later : List Call) → AreAnswered w (later ++ B) → IsAnswered w (later ++ B) call
-      → (since_take later B + step (later ++ B) (moment (call ∷ later ++ B)) ≤ g) × (claims_anew call ≡ false) → slice_get (reception w (later ++ B)).replies 0 ≡ Some m
+      → (since_take later B + step (later ++ B) (moment (call ∷ later ++ B)) ≤ g) × (claims_anew call ≡ false) → slice_get (all_replies w (later ++ B)) 0 ≡ Some m
       → takes_reply w (later ++ B) call ≡ false → Replying later → Replying (call ∷ later)
   reply_later (At now (TakeFrame (Some f))) later right a p first untaken h =
       later_on w (later ++ B) (At now (TakeFrame (Some f))) refl (λ x. x)
@@ -420,7 +420,7 @@ module _ (w : Who) (B : List Call) (g : ℕ) (m : Message) where
   reply_later call later right a p first untaken h =
       later_on w (later ++ B) call p.1 (λ x. x) (λ e z b. inr (record { others = b.others; few = b.few; late = (let l = b.late in omega (arith, l)) })) h
 
-  first_now : (later : List Call) → StaysFirst w m later B → slice_get (reception w (later ++ B)).replies 0 ≡ Some m
+  first_now : (later : List Call) → StaysFirst w m later B → slice_get (all_replies w (later ++ B)) 0 ≡ Some m
   first_now [] s = s
   first_now (call ∷ later) s = s.2
 

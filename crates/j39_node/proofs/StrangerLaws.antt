@@ -1,11 +1,10 @@
 -- A frame of a stranger changes nothing of what is sent to others, received from others, or told to have ended.
-use Rattle.j39_node.proofs.Common.{[], if◌then◌else◌, ◌&&◌, ◌++◌, ◌-◌, ◌||◌, ◌∙◌, ◌∷◌, ◌≡◌, ◌≢◌, ◌⊎◌, accepted, acknowledged, Address, address_after, ap, AreAnswered, arith, asked_group, At, Bool, Call, calls_for_claim, Claim, claim_address, claim_from, claim_of, clock_at, cond_both, control_of, Controller, delayed, destination_of, Directed, due, eq-eqb, false, FrameRecord, goes_to, grants, has_packets, has_place, Hear, hears_if, held_then, holder, holds, inr, Is, is_another, is_apart, is_claim, is_held, is_lost, is_replaced, is_smaller, is_spent, is_there, left, length, List, listens, listens_to, Lost, Message, nat_eq, nat_le, nat_lt, next_frame, next_packet, None, not, of_other, older, open_transfer, Option, option_map, owes_claim, patience, pause, reached, Ready, Received, Reception, reception, ReceptionRecord, recv_step, refl, replied, reply_from, Running, said_between, said_to, send_step, shown, Signal, slice_get, Some, source_of, step, subst, sym, TakeFrame, takes_abort, takes_data, takes_request, takes_signal, ToSend, transfer_by, true, turn_frame, turn_of, turns, Who, whole_by, without, yields, ℕ, and-false, or-false, ne_eqb}
+use Rattle.j39_node.proofs.Common.{accepted, acknowledged, Address, address_after, all_replies, and-false, ap, AreAnswered, arith, asked_group, At, Bool, Call, calls_for_claim, Claim, claim_address, claim_from, claim_of, clock_at, control_of, Controller, delayed, destination_of, due, false, FrameRecord, has_packets, Hear, hears_if, held_then, holder, holds, if◌then◌else◌, inr, Is, is_another, is_apart, is_claim, is_held, is_lost, is_replaced, is_smaller, is_spent, is_there, length, List, listens, listens_to, Lost, Message, nat_eq, nat_le, nat_lt, ne_eqb, next_frame, next_packet, None, not, of_other, older, open_transfer, Option, option_map, or-false, owes_claim, patience, pause, reached, Ready, refl, replies_of, Running, said_between, send_step, slice_get, Some, source_of, step, subst, TakeFrame, transfer_by, true, turn_frame, turn_of, turns, Who, yields, ℕ, ◌&&◌, ◌-◌, ◌||◌, ◌∙◌, ◌∷◌, ◌≡◌, ◌≢◌, ◌⊎◌}
 use Rattle.j39_transport.specs.Signals.{said_by}
-use Rattle.j39_node.specs.Reception.{says}
 use Rattle.j39_transport.specs.Frames as frames
 use Rattle.j39_node.proofs.ReceptionLemmas.{unclaimed_known}
 use Rattle.j39_node.proofs.PortLemmas.{Ported, ported}
-use Rattle.j39_node.proofs.ReceptionLaws.{none_delivered, says_it, to_others}
+use Rattle.j39_node.proofs.ReceptionLaws.{to_others}
 
 -- ---- a transfer
 
@@ -112,60 +111,8 @@ frame_stays w H c when f now is e g n m =
     owed : due w (At when (Hear f) ∷ H) ≡ due w H
     owed = grind arith
 
-    said : (reception w (At when (Hear f) ∷ H)).replies ≡ (reception w H).replies
-    said = ap (λ (r : Reception). r.replies) (to_others w H when f mine (λ r z. unclaimed_known w H when f r.message.source e) n)
+    said : all_replies w (At when (Hear f) ∷ H) ≡ all_replies w H
+    said = ap replies_of (to_others w H when f mine (λ a x z. unclaimed_known w H when f a e) n)
 
     moved : open_transfer w (At when (Hear f) ∷ H) ≡ open_transfer w H
     moved = open_stays w H when f is.answered e n
-
--- ---- what is received
-
--- another's frame makes nothing whole
-other_quiet : (source own : ℕ) (s : Option Signal) (now : ℕ) (found : Bool) (x : ReceptionRecord) → (source ≡ x.message.source → ⊥)
-    → (takes_signal (Directed source own) s now found (Some x)).delivers ≡ None
-unfolding takes_signal takes_data takes_abort takes_request grants
-other_quiet source own s now found x e = grind (arith, e)
-
-none_whole : (own : ℕ) (f : FrameRecord) (now : ℕ) (found : Bool) (o : Option ReceptionRecord)
-    → ((x : ReceptionRecord) → o ≡ Some x → source_of f.id ≢ x.message.source)
-    → (recv_step (record { own = own; session = o }) (Received f) now found).delivers ≡ None
-unfolding recv_step frames.source_of
-none_whole own f now found None n = none_delivered (record { own = own; session = None }) f now found refl
-none_whole own f now found (Some x) n = other_quiet (source_of f.id) own (said_to own f) now found x (n x refl)
-
-pub other_whole : (own : ℕ) (f : FrameRecord) (now : ℕ) (found : Bool) (x : ReceptionRecord) → nat_eq (source_of f.id) x.message.source ≡ false
-    → (recv_step (record { own = own; session = Some x }) (Received f) now found).delivers ≡ None
-other_whole own f now found x e = none_whole own f now found (Some x) (λ y i s. other y i s)
-  where
-    other : (y : ReceptionRecord) → Some x ≡ Some y → source_of f.id ≡ y.message.source → ⊥
-    other y i s = let z : x ≡ y = cc in absurd (let k : false ≡ true = sym e ∙ eq-eqb _ _ (s ∙ ap (λ (u : ReceptionRecord). u.message.source) (sym z)) in cc)
-
-pub whole_by_none : (own : ℕ) (lost held b : Bool) (f : FrameRecord) (now : ℕ) (r : Reception)
-    → ((x : ReceptionRecord) → r.session ≡ Some x → source_of f.id ≢ x.message.source) → whole_by own lost held f now (left b r) ≡ None
-whole_by_none own true held b f now r n = refl
-whole_by_none own false false b f now r n = refl
-whole_by_none own false true true f now r n = none_whole own (shown own None f) now (has_place r.waits) None (λ x z. absurd (cc))
-whole_by_none own false true false f now r n = none_whole own (shown own r.session f) now (has_place r.waits) r.session n
-
--- ---- what is said
-
-without_one : (a : ℕ) (xs : List Message) (m : Message) → goes_to a m ≡ true → without a (xs ++ m ∷ []) ≡ without a xs
-without_one a [] m e = ap (λ (b : Bool). if b then without a [] else m ∷ without a []) e
-without_one a (x ∷ xs) m e = ap (λ ys. if goes_to a x then ys else x ∷ ys) (without_one a xs m e)
-
-without_twice : (a : ℕ) (xs : List Message) → without a (without a xs) ≡ without a xs
-without_twice a [] = refl
-without_twice a (x ∷ xs) = let h = without_twice a xs in grind (arith, h)
-
-to_others_stay : (own a : ℕ) (s : Option ToSend) (xs : List Message) → without a (replied own a s xs) ≡ without a xs
-to_others_stay own a None xs = refl
-to_others_stay own a (Some x) xs = cond_both (nat_lt (length (without a xs)) 16) _ _ (λ ys. without a ys ≡ without a xs)
-    (λ z. without_one a (without a xs) (reply_from own a x.bytes) (eq-eqb a a refl) ∙ without_twice a xs) (λ z. without_twice a xs)
-
-pub replies_stay : (w : Who) (H : List Call) (when : ℕ) (f : FrameRecord) → claim_of f ≡ None
-    → without (source_of f.id) (reception w (At when (Hear f) ∷ H)).replies ≡ without (source_of f.id) (reception w H).replies
-replies_stay w H when f e = go (holds w H when) refl
-  where
-    go : (b : Bool) → holds w H when ≡ b → without (source_of f.id) (reception w (At when (Hear f) ∷ H)).replies ≡ without (source_of f.id) (reception w H).replies
-    go true h = ap (without (source_of f.id)) (says_it w H when f h e) ∙ to_others_stay w.address (source_of f.id) (says w H when f) (reception w H).replies
-    go false h = grind (arith, h)

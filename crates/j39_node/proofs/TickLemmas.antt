@@ -1,5 +1,5 @@
 -- When a tick does something.
-use Rattle.j39_node.proofs.Common.{[], if◌then◌else◌, ◌&&◌, ◌+◌, ◌-◌, ◌<◌, ◌==◌, ◌||◌, ◌∙◌, ◌∷◌, ◌≡◌, ◌≤◌, ◌⊎◌, address_after, ap, arith, ask_end, AskEnding, asks_again, At, Bool, Call, comes, cond_both, Controller, ended, false, granted_at, grants, heard_at, hearing_tick, in_session, inl, inr, Is, is_coming, is_from, is_late, is_lost, is_over, limit_of, List, ltb-false, moment, nat_eq, nat_lt, next_ask_ended, next_tick, None, not, open_ask, OpenBroadcast, Option, option_map, out_at, Question, reached, Reaction, receiver_at, ReceiverRecord, Reception, reception, ReceptionRecord, recv_step, RecvResult, refl, request_tick, seeks, session_tick, Some, sooner, sym, TakeAskEnded, takes_tick, Tick, ticked_at, Ticks, time_heard, TimedOut, true, wait, Who, ℕ, and-false, or_parts, comes_in, get_or, holder, Listening, listening, stay, subst}
+use Rattle.j39_node.proofs.Common.{[], address_after, and-false, ap, arith, ask_end, AskEnding, asks_again, At, Bool, Call, comes, comes_in, Controller, ended, false, get_or, granted_at, grants, heard_at, hearing_tick, holder, if◌then◌else◌, inl, Is, is_coming, is_late, is_lost, is_session_open, List, Listening, listening, ltb-false, moment, nat_eq, nat_lt, next_ask_ended, next_tick, None, not, open_ask, OpenBroadcast, Option, option_map, or_parts, out_at, Question, reached, reception, recv_step, refl, request_tick, seeks, Session, session, session_tick, Some, sooner, stay, subst, sym, TakeAskEnded, takes_tick, Tick, time_heard, TimedOut, true, wait, Who, ℕ, ◌&&◌, ◌+◌, ◌-◌, ◌<◌, ◌||◌, ◌∙◌, ◌∷◌, ◌≡◌, ◌≤◌, false_from_ne_true}
 use Rattle.std.specs.List.{All, filter}
 use Rattle.std.proofs.lemmas.List.Elements.{All-head, All-tail, filter_passes}
 use Rattle.j39_node.proofs.FrameLemmas.{lt_false}
@@ -7,7 +7,11 @@ use Rattle.j39_node.specs.declared.kinds.AskEnding.TheVariants.{Withdrawn}
 use Rattle.j39_node.specs.Asking.{is_taken, is_waiting}
 use Rattle.j39_node.proofs.AskLaws.{over_told}
 use Rattle.j39_node.proofs.HearingLaws.{tick_keeps}
-use Rattle.j39_node.proofs.ReceptionLaws.{tick_waits}
+use Rattle.j39_node.proofs.ReceptionLaws.{tick_is, tick_waits}
+use Rattle.j39_node.proofs.ReceptionLemmas.{apart}
+use Rattle.j39_sessions.specs.Events.{ticked_of}
+use Rattle.j39_sessions.specs.Sessions.{session_ticked}
+use Rattle.j39_sessions.proofs.SourceLemmas.{of_group, open_of}
 use Rattle.j39_node.proofs.SoundLemmas.{lost_older}
 use Rattle.j39_node.proofs.LawLemmas.{before_stamp}
 
@@ -22,23 +26,19 @@ time_fits : (H : List Call) → time_heard H ≤ 9999999999999999
 time_fits [] = omega arith
 time_fits (call ∷ H) = let h = time_fits H in grind (arith, h)
 
--- what comes in a session goes on to come, or ends
-session_left : (r : ReceiverRecord) (now : ℕ) → (in_session (recv_step r Ticks now true).after.session ≡ in_session r.session) ⊎ (in_session (recv_step r Ticks now true).after.session ≡ None)
+-- a session of the group goes on, or ends
+session_left : (own now : ℕ) (x : Session) (group : ℕ) → of_group group (session_ticked own now x) ≡ true → of_group group (Some x) ≡ true
 unfolding recv_step takes_tick asks_again grants granted_at
-session_left r now = go r.session
+session_left own now x group e = grind (arith, e)
+
+none_opens : (w : Who) (H : List Call) (now a group : ℕ) → is_session_open a group (reception w H).sessions ≡ false → is_session_open a group (reception w (At now Tick ∷ H)).sessions ≡ false
+none_opens w H now a group e =
+    open_of a group (reception w (At now Tick ∷ H)).sessions (apart w (At now Tick ∷ H))
+    ∙ (ap (of_group group) (tick_is w H now a) ∙ go (session w H a) (sym (open_of a group (reception w H).sessions (apart w H)) ∙ e))
   where
-    Left : ReceptionRecord → Reaction → Type 0
-    Left x y = (in_session y.session ≡ in_session (Some x)) ⊎ (in_session y.session ≡ None)
-
-    go : (o : Option ReceptionRecord) → (in_session (takes_tick now o).session ≡ in_session o) ⊎ (in_session (takes_tick now o).session ≡ None)
-    go None = inl refl
-    go (Some x) =
-        cond_both (nat_lt (x.message.last + limit_of x) now) _ _ (Left x)
-        (λ t. cond_both (x.asks == 2) _ _ (Left x) (λ t. inr refl) (λ t. inl refl)) (λ t. inl refl)
-
-left_at : (own now : ℕ) (r : Reception) → (in_session (ticked_at own now r).after.session ≡ in_session r.session) ⊎ (in_session (ticked_at own now r).after.session ≡ None)
-left_at own now r =
-    cond_both (is_over r.since now r.session) _ _ (λ (x : RecvResult). (in_session x.after.session ≡ in_session r.session) ⊎ (in_session x.after.session ≡ None)) (λ t. inr refl) (λ t. session_left (receiver_at own r) now)
+    go : (o : Option Session) → of_group group o ≡ false → of_group group (ticked_of w.address (time_heard (At now Tick ∷ H)) o) ≡ false
+    go None e = refl
+    go (Some x) e = false_from_ne_true _ (λ k. (let z : false ≡ true = sym e ∙ session_left w.address (time_heard (At now Tick ∷ H)) x group k in absurd (cc)))
 
 -- what comes later came before
 late_later : (t s : ℕ) (x : OpenBroadcast) → t ≤ s → is_late s x ≡ false → is_late t x ≡ false
@@ -55,20 +55,17 @@ same_coming t s q (x ∷ xs) l h =
     let k = same_coming t s q xs l (All-tail (λ y. is_late s y ≡ false) x xs h) in
     λ z. (not ((i ∙ sym (late_later t s x l i)) z) && seeks q (Some (x.source, x.group))) || k z
 
-none_begins : (o : Option Question) (t s : ℕ) (p : OpenBroadcast → Bool) (a b : Option (ℕ × ℕ)) (xs : List OpenBroadcast) → t ≤ s → (b ≡ a) ⊎ (b ≡ None) → is_coming t o a xs ≡ false
-    → is_coming s o b (filter p xs) ≡ false
-none_begins None t s p a b xs l i e = refl
-none_begins (Some q) t s p a b xs l i e =
-    let h = or_parts (is_from q a) (comes_in t q xs) e in (λ z. one a b i h.0 z || none_more t s q p xs l h.1 z)
-  where
-    one : (a b : Option (ℕ × ℕ)) → (b ≡ a) ⊎ (b ≡ None) → is_from q a ≡ false → is_from q b ≡ false
-    one a b e f = grind (arith, e, f)
+none_begins : (o : Option Question) (t s : ℕ) (p : OpenBroadcast → Bool) (A B : List Session) (xs : List OpenBroadcast) → t ≤ s
+    → ((a group : ℕ) → is_session_open a group A ≡ false → is_session_open a group B ≡ false) → is_coming t o A xs ≡ false → is_coming s o B (filter p xs) ≡ false
+none_begins None t s p A B xs l i e = refl
+none_begins (Some q) t s p A B xs l i e =
+    let h = or_parts (is_session_open q.to q.group A) (comes_in t q xs) e in (λ z. i q.to q.group h.0 z || none_more t s q p xs l h.1 z)
 
 none_comes : (w : Who) (H : List Call) (now : ℕ) → comes w H (time_heard H) ≡ false → comes w (At now Tick ∷ H) (time_heard (At now Tick ∷ H)) ≡ false
 none_comes w H now e =
     let l = time_fits H in
-    none_begins (open_ask H) (time_heard H) (time_heard (At now Tick ∷ H)) (λ x. not (Rattle.j39_node.specs.Hearing.is_over None (holder w H) (time_heard (At now Tick ∷ H)) x)) _ _ (listening w H).current (omega (arith, l))
-    (left_at w.address (time_heard (At now Tick ∷ H)) (reception w H)) e
+    none_begins (open_ask H) (time_heard H) (time_heard (At now Tick ∷ H)) (λ x. not (Rattle.j39_node.specs.Hearing.is_over None (holder w H) (time_heard (At now Tick ∷ H)) x)) (reception w H).sessions
+    (reception w (At now Tick ∷ H)).sessions (listening w H).current (omega (arith, l)) (none_opens w H now) e
 
 -- ---- at a tick from its moment on a request is told as timed out
 
@@ -105,9 +102,9 @@ all_timely holds now xs e = subst (All (λ x. is_late now x ≡ false)) e (λ i 
     in_it : (x : OpenBroadcast) → not (Rattle.j39_node.specs.Hearing.is_over None holds now x) ≡ true → is_late now x ≡ false
     in_it x e = grind (arith, e)
 
-comes_on : (o : Option Question) (t s : ℕ) (a : Option (ℕ × ℕ)) (xs : List OpenBroadcast) → t ≤ s → All (λ x. is_late s x ≡ false) xs → is_coming s o a xs ≡ is_coming t o a xs
-comes_on None t s a xs l h = refl
-comes_on (Some q) t s a xs l h = ap (λ (b : Bool). is_from q a || b) (same_coming t s q xs l h)
+comes_on : (o : Option Question) (t s : ℕ) (A : List Session) (xs : List OpenBroadcast) → t ≤ s → All (λ x. is_late s x ≡ false) xs → is_coming s o A xs ≡ is_coming t o A xs
+comes_on None t s A xs l h = refl
+comes_on (Some q) t s A xs l h = ap (λ (b : Bool). is_session_open q.to q.group A || b) (same_coming t s q xs l h)
 
 pub none_ends : (w : Who) (H : List Call) (now : ℕ) → heard_at H ≤ now → now < 10000000000000000 → ((t : ℕ) → next_tick w H ≡ Some t → now < t)
     → next_ask_ended w (At now Tick ∷ H) ≡ next_ask_ended w H
@@ -119,9 +116,9 @@ none_ends w H now l m q =
     let k = tick_keeps w H now l m d.0 in
     let h = all_timely (holder w H) t (listening w H).current (ap (λ (x : Listening). x.current) k) in
     (λ i. ask_end (open_ask H) (reached H) (ended w H) (wait H - (now - moment H))
-    (is_coming t (open_ask H) (in_session (tick_waits w H now l m b.0 i).session) (k i).current) (lost_older (now - moment H) (address_after w H) i))
+    (is_coming t (open_ask H) (tick_waits w H now l m b.0 i).sessions (k i).current) (lost_older (now - moment H) (address_after w H) i))
     ∙ (ap (λ (c : Bool). ask_end (open_ask H) (reached H) (ended w H) (wait H - (now - moment H)) c lost)
-    (comes_on (open_ask H) (time_heard H) t (in_session (reception w H).session) (listening w H).current (omega (arith, f)) h)
+    (comes_on (open_ask H) (time_heard H) t (reception w H).sessions (listening w H).current (omega (arith, f)) h)
     ∙ go (open_ask H) (ended w H) (comes w H (time_heard H)) d.1)
   where
     lost : Bool

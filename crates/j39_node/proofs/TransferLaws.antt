@@ -1,5 +1,5 @@
 -- The laws of transfers.
-use Rattle.j39_node.proofs.Common.{Abort, Aborts, Acknowledges, Acknowledgment, AreAnswered, At, Bool, Call, Controller, FrameRecord, Gone, Happened, Hear, Idle, Is, IsMove, IsTrue, List, Message, MessageRecord, None, Ok, Option, Refused, Replaces, Result, Running, SendState, SenderRecord, Signal, Some, TakeFrame, TakeTransferEnded, Transfer, TransferEnding, Who, [], abort_move, aborted, acked, address_after, all_transfers, ap, arith, both, can_transfer, clears, clears_by, clock_at, cond_both, ending_by, eqb-true, false, gives_up, granted_after, granted_by, hears, hears_if, holder, holds, if◌then◌else◌, inl, inr, is_clear, is_engaged, is_idle, is_lost, is_move, is_replaced, is_resting, is_running, is_spent, is_waiting, later, left, length, listens, long_by, lost, ltb-true, message_of, moves, nat_eq, new_sender, next_packet, next_transfer, not, not_both, open_transfer, option_map, or_parts, other, packets_of, refl, rested, said_between, says, send_step, sends, sends_if, signal_by, slice_get, spent_after, subst, sym, takes_clear, ticks_in, told, told_transfers, transfer_end, true, waiting, ℕ, ◌&&◌, ◌++◌, ◌+◌, ◌<◌, ◌||◌, ◌∙◌, ◌∷◌, ◌≡◌, ◌≤◌, ◌⊎◌, same_Some, none-some, ltb-false, or_cases}
+use Rattle.j39_node.proofs.Common.{[], Abort, abort_move, aborted, Aborts, acked, Acknowledges, Acknowledgment, address_after, all_transfers, ap, AreAnswered, arith, At, Bool, both, Call, can_transfer, clears, clears_by, clock_at, cond_both, Controller, ending_by, eqb-true, false, FrameRecord, gives_up, Gone, granted_after, granted_by, Happened, Hear, hears, hears_if, holder, holds, Idle, if◌then◌else◌, inl, inr, Is, is_clear, is_engaged, is_idle, is_lost, is_move, is_replaced, is_resting, is_running, is_spent, is_waiting, IsMove, IsTrue, later, length, List, listens, long_by, lost, ltb-false, ltb-true, Message, message_of, MessageRecord, moves, nat_eq, new_sender, next_packet, next_transfer, None, none-some, not, not_both, Ok, open_transfer, Option, option_map, or_cases, or_parts, other, packets_of, refl, Refused, Replaces, rested, Result, Running, said_between, same_Some, says, send_step, SenderRecord, sends, sends_if, SendState, Signal, signal_by, slice_get, Some, spent_after, subst, sym, TakeFrame, takes_clear, TakeTransferEnded, ticks_in, told, told_transfers, Transfer, transfer_end, TransferEnding, true, waiting, Who, ℕ, ◌&&◌, ◌++◌, ◌+◌, ◌<◌, ◌||◌, ◌∙◌, ◌∷◌, ◌≡◌, ◌≤◌, ◌⊎◌}
 use Rattle.j39_transport.specs.Sending.{Heard, Tick}
 use Rattle.j39_node.specs.declared.kinds.TransferEnding.TheVariants.{Done, Withdrawn, Failed}
 use Rattle.j39_node.specs.Transfers.{is_over, said_to}

@@ -1,6 +1,6 @@
 -- Asking others for groups (J1939-21, 5.4.2 and 5.4.4): what a history says of it.
 use Rattle.std.specs.Prelude.{if◌then◌else◌, ◌%◌, ◌&&◌, ◌++◌, ◌+◌, ◌-◌, ◌/◌, ◌<◌, ◌||◌, ◌∷◌, ◌≡◌, ◌≤◌, ◌⊎◌}
-use Rattle.j39_node.specs.Common.{[], address_claimed_group, answer_time, Bool, destination_of, Err, false, FrameRecord, global_address, IsTrue, length, List, list_any, MessageRecord, nat_eq, nat_lt, None, not, null_address, Ok, Option, option_map, option_or, pgn_of, ReceptionRecord, Result, slice_get, Some, source_of, true, ℕ}
+use Rattle.j39_node.specs.Common.{[], address_claimed_group, answer_time, Bool, destination_of, Err, false, FrameRecord, global_address, IsTrue, length, List, list_any, MessageRecord, nat_eq, nat_lt, None, not, null_address, Ok, Option, option_map, option_or, pgn_of, Result, slice_get, Some, source_of, true, ℕ}
 use Rattle.j39_node.specs.declared.kinds.Answer.TheVariants.{Ack, Nack, Denied, Busy}
 use Rattle.j39_node.specs.declared.kinds.AskEnding.{AskEnding}
 use Rattle.j39_node.specs.declared.kinds.AskEnding.TheVariants.{Answered, Acknowledged, TimedOut, Withdrawn}
@@ -11,6 +11,7 @@ use Rattle.j39_node.specs.History.Call.{At, TakeAskEnded}
 use Rattle.j39_node.specs.History.Act.{Ask, Hear, TakeFrame}
 use Rattle.j39_node.specs.Since.{passed_in}
 use Rattle.j39_node.specs.Reception.{is_message, reception, time_heard, whole}
+use Rattle.j39_sessions.specs.Sessions.{is_open, Session}
 use Rattle.j39_node.specs.Hearing.{OpenBroadcast, is_late, listening, made_whole}
 
 -- a group that may be sent, or that of claims (J1939-81, 4.2.1), of all or of the address of another
@@ -116,11 +117,6 @@ says_to w q f made =
 
 -- ---- an answer in packets on its way (J1939-21, 5.12.3: the 1,250 ms are for its begin)
 
--- the source and the group of an open session
-abbrev pub in_session : Option ReceptionRecord → Option (ℕ × ℕ)
-in_session None = None
-in_session (Some r) = Some (r.message.source, r.message.group)
-
 -- a broadcast is in time, and of the group and of whom was asked
 abbrev pub comes_by : ℕ → Question → OpenBroadcast → Bool
 comes_by time q x = not (is_late time x) && seeks q (Some (x.source, x.group))
@@ -128,18 +124,14 @@ comes_by time q x = not (is_late time x) && seeks q (Some (x.source, x.group))
 abbrev pub comes_in : ℕ → Question → List OpenBroadcast → Bool
 comes_in time q = list_any (comes_by time q)
 
--- it is a session of whom was asked, and of the group (J1939-21, 5.10.3.1: its RTS tells it)
-abbrev pub is_from : Question → Option (ℕ × ℕ) → Bool
-is_from q None = false
-is_from q (Some x) = nat_eq x.0 q.to && nat_eq x.1 q.group
-
-abbrev pub is_coming : ℕ → Option Question → Option (ℕ × ℕ) → List OpenBroadcast → Bool
-is_coming time None session broadcasts = false
-is_coming time (Some q) session broadcasts = is_from q session || comes_in time q broadcasts
+-- one to the open request is: a session of whom was asked, and of the group (J1939-21, 5.10.3.1: its RTS tells it), or such a broadcast
+abbrev pub is_coming : ℕ → Option Question → List Session → List OpenBroadcast → Bool
+is_coming time None sessions broadcasts = false
+is_coming time (Some q) sessions broadcasts = is_open q.to q.group sessions || comes_in time q broadcasts
 
 -- at this time, by which a broadcast may be late, one to the open request is on its way
 abbrev pub comes : Who → List Call → ℕ → Bool
-comes w H time = is_coming time (open_ask H) (in_session (reception w H).session) (listening w H).current
+comes w H time = is_coming time (open_ask H) (reception w H).sessions (listening w H).current
 
 -- ---- how it ends
 

@@ -1,7 +1,7 @@
 -- The names from elsewhere that definitions here cite, passed on from one place. Declares nothing.
 pub use Rattle.std.specs.List.{list_any, slice_get}
 pub use Rattle.std.specs.Option.{is_some, is_some as is_there, option_map, option_or}
-pub use Rattle.std.specs.Prelude.{[], Bool, drop, Err, false, IsTrue, length, List, map, max, min, nat_eq, nat_le, nat_lt, None, not, Ok, Option, Result, slice_index, slice_set, Some, suc, take, true, zero, ℕ}
+pub use Rattle.std.specs.Prelude.{[], Bool, drop, Err, false, IsTrue, length, List, map, max, min, nat_eq, nat_le, nat_lt, None, not, Ok, Option, Result, slice_index, slice_set, Some, suc, take, true, unwrap_or, zero, ℕ}
 pub use Rattle.std.specs.Str.{bytes_eq}
 pub use Rattle.byteorder.specs.Endian.{little_bytes, little_number}
 pub use Rattle.j39_address.specs.Claim.{Claim, claim_of}
@@ -15,6 +15,7 @@ pub use Rattle.j39_frame.specs.Identifier.{destination_of, id_raw, pgn_of, prior
 pub use Rattle.j39_frame.specs.Network.{address_claimed_group, request_group, transport_control_group, transport_data_group}
 pub use Rattle.j39_frame.specs.Pgn.{pgn_raw}
 pub use Rattle.j39_frame.specs.Stamp.{stamp_micros}
+pub use Rattle.j39_sessions.specs.Sessions.{is_same, listed}
 pub use Rattle.j39_transport.specs.Announced.{announced_by}
 pub use Rattle.j39_transport.specs.Carries.{CarriesCut}
 pub use Rattle.j39_transport.specs.Cutting.{cut_frame, packet_data, ToSend}

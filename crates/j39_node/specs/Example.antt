@@ -12,7 +12,7 @@ use Rattle.j39_node.specs.History.Act.{Acknowledge, Broadcast, Hear, Tick, TakeF
 
 -- NAME 2 at address 128, whose program serves group 65259 and subscribes 0 and 65226
 abbrev pub two : Who
-two = record { name = 2; address = 128; delay = 10; served = 65259 ∷ []; subscribed = Some (0 ∷ 65226 ∷ []); boxes = 1; brought = nothing }
+two = record { name = 2; address = 128; delay = 10; served = 65259 ∷ []; subscribed = Some (0 ∷ 65226 ∷ []); boxes = 1; sessions = 1; window = 0; brought = nothing }
 
 -- its claim, and 'cannot claim'
 abbrev pub own_claim : ℕ → FrameRecord
@@ -83,7 +83,7 @@ abbrev pub received_all : ℕ → FrameRecord
 received_all now = record { stamp = now; id = 485261323; bytes = 19 ∷ 9 ∷ 0 ∷ 2 ∷ 255 ∷ 202 ∷ 254 ∷ 0 ∷ [] }
 
 -- address 11 requests to send them to it, and sends the packets; what it answers: clear to send both, and the acknowledgment; and to
--- address 12, which requests the same meanwhile, that it is busy
+-- address 12, which requests the same meanwhile, that it has no room
 abbrev pub request_from : ℕ → FrameRecord
 request_from now = record { stamp = now; id = 485261323; bytes = 16 ∷ 9 ∷ 0 ∷ 2 ∷ 255 ∷ 202 ∷ 254 ∷ 0 ∷ [] }
 
@@ -100,7 +100,7 @@ abbrev pub clear_to : ℕ → FrameRecord
 clear_to now = record { stamp = now; id = 485231488; bytes = 17 ∷ 2 ∷ 1 ∷ 255 ∷ 255 ∷ 202 ∷ 254 ∷ 0 ∷ [] }
 
 abbrev pub busy_to : ℕ → FrameRecord
-busy_to now = record { stamp = now; id = 485231744; bytes = 255 ∷ 1 ∷ 255 ∷ 255 ∷ 255 ∷ 202 ∷ 254 ∷ 0 ∷ [] }
+busy_to now = record { stamp = now; id = 485231744; bytes = 255 ∷ 2 ∷ 255 ∷ 255 ∷ 255 ∷ 202 ∷ 254 ∷ 0 ∷ [] }
 
 abbrev pub has_all : ℕ → FrameRecord
 has_all now = record { stamp = now; id = 485231488; bytes = 19 ∷ 9 ∷ 0 ∷ 2 ∷ 255 ∷ 202 ∷ 254 ∷ 0 ∷ [] }

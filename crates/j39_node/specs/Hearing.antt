@@ -1,12 +1,12 @@
 -- Broadcasts in packets that are heard (J1939-21, 5.10.3.5 and 5.13.3), one of each source: what a history says of them.
 use Rattle.std.specs.Prelude.{if◌then◌else◌, ◌&&◌, ◌*◌, ◌++◌, ◌+◌, ◌-◌, ◌||◌, ◌∷◌, ◌≡◌, ◌≤◌}
 use Rattle.std.specs.List.{filter, find}
-use Rattle.j39_node.specs.Common.{[], Bool, broadcast_limit, by, CarriesCut, drop, false, FrameRecord, is_announcement, is_packet, is_there, IsTrue, length, List, MessageRecord, min, nat_eq, nat_le, nat_lt, None, not, Option, packets_for, pgn_named, size_named, slice_index, Some, source_of, suc, take, true, ℕ}
+use Rattle.j39_node.specs.Common.{[], Bool, broadcast_limit, by, CarriesCut, drop, false, FrameRecord, is_announcement, is_packet, is_same, is_there, IsTrue, length, List, listed, MessageRecord, min, nat_eq, nat_le, nat_lt, None, not, Option, packets_for, pgn_named, size_named, slice_index, Some, source_of, suc, take, true, ℕ}
 use Rattle.j39_node.specs.declared.kinds.News.TheVariants.{MessagesMissed}
 use Rattle.j39_node.specs.History.{Who, Call, is_claim, is_own_group, is_some, is_subscribed, stamp_at}
 use Rattle.j39_node.specs.History.Call.{At, TakeNews, ReleaseBroadcast}
 use Rattle.j39_node.specs.History.Act.{Hear, Tick, TakeFrame}
-use Rattle.j39_node.specs.Reception.{KeepsHolder, frames_heard, heard_at, holder, is_same, listed, restarts, time_heard}
+use Rattle.j39_node.specs.Reception.{KeepsHolder, frames_heard, heard_at, holder, restarts, time_heard}
 use Rattle.j39_node.specs.Transfers.{sooner}
 
 -- what was announced and by whom, how many packets were appended and their data, the moment and the time of the last, or of the

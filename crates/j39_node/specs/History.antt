@@ -29,8 +29,8 @@ abbrev pub nothing : Brought
 nothing = record { known = []; resting = NoneRests; rests_until = 0 }
 
 -- the NAME of a controller, the address that it claims, how long it waits before it says that it can't claim one (in 0.6 ms), the
--- groups that its program serves, those that it subscribed (none told: all), how many boxes it has for broadcasts in packets, and
--- what it brought along
+-- groups that its program serves, those that it subscribed (none told: all), how many boxes it has for broadcasts in packets and for
+-- sessions, how many packets it grants at once at most (0 sets no limit), and what it brought along
 pub record Who : Type 0 where
   pub name : ℕ
   pub address : ℕ
@@ -38,6 +38,8 @@ pub record Who : Type 0 where
   pub served : List ℕ
   pub subscribed : Option (List ℕ)
   pub boxes : ℕ
+  pub sessions : ℕ
+  pub window : ℕ
   pub brought : Brought
 
 -- what a frame carries: who sends it, to whom (none for a group of PF 240 and up), and what

@@ -1,6 +1,6 @@
 -- The histories that a controller can have had.
 use Rattle.std.specs.Prelude.{if◌then◌else◌, ◌&&◌, ◌++◌, ◌+◌, ◌-◌, ◌||◌, ◌∷◌, ◌≡◌, ◌≤◌}
-use Rattle.j39_node.specs.Common.{[], Bool, BoxedReceiver, called_time, Cannot, Claim, claim_of, claim_time, Claiming, drop, Err, false, FrameRecord, global_address, Heard, Holding, id_raw, Idle, Knows, last_count, length, List, map, max, MessageRecord, min, name_raw, nat_eq, nat_le, nat_lt, None, not, null_address, Ok, Option, option_map, packets_of, pgn_raw, places, recv_step, request_group, Result, slack, slice_get, slice_set, Some, stamp_micros, Status, ToSend, true, ℕ}
+use Rattle.j39_node.specs.Common.{[], Bool, called_time, Cannot, Claim, claim_of, claim_time, Claiming, drop, Err, false, FrameRecord, global_address, Holding, id_raw, Idle, Knows, last_count, length, List, map, max, MessageRecord, min, name_raw, nat_eq, nat_le, nat_lt, None, not, null_address, Ok, Option, option_map, packets_of, pgn_raw, places, request_group, Result, slack, slice_get, slice_set, Some, source_of, stamp_micros, Status, true, ℕ}
 use Rattle.j39_node.specs.declared.controller.Controller.{Controller}
 use Rattle.j39_node.specs.declared.heard.Heard.{Heard as Read}
 use Rattle.j39_node.specs.declared.heard.Heard.TheVariants as read
@@ -34,14 +34,14 @@ use Rattle.j39_node.specs.History.{older, reached, Brought, Who, Message, Draft,
 use Rattle.j39_node.specs.History.Call.{At, Withdraw, TakeAskEnded, TakeEnded, TakeReceived, TakeRequest, TakeNews, TakeBroadcastEnded, ReleaseTransfer, TakeTransferEnded, ReleaseBroadcast, Renew}
 use Rattle.j39_node.specs.History.Act.{Ask, TakeFrame, Send, Acknowledge, Broadcast, Transfer}
 use Rattle.j39_node.specs.History.Address.{NotClaimed, Claimed, Lost}
-use Rattle.j39_node.specs.Reception.{yields, Reception, senders, transfer_sender, called, called_for, Calling, calls_whom, claimed_again, waned, still, time_heard, has_place, heard_at, heard_by, keeps, later, leaves, left, reception, reply_from, ticked, is_that}
+use Rattle.j39_sessions.specs.Sessions.{hears as sessions_hear, leaves, loses, SessionsRecord, ticks as sessions_tick}
+use Rattle.j39_sessions.specs.Shown.{sessions_of}
+use Rattle.j39_node.specs.Reception.{yields, senders, called, called_for, Calling, calls_whom, claimed_again, waned, time_heard, heard_at, later, reception, replies, replies_of, is_that}
 use Rattle.j39_node.specs.Asking.{Question, answer_to_ask, ended, first, lacks_answer, next_ask_ended, open_ask, question, says_to, silent_end, wait}
 use Rattle.j39_node.specs.declared.kinds.AskEnding.{AskEnding}
 use Rattle.j39_node.specs.declared.asking.Asking.{Asking}
 use Rattle.j39_node.specs.declared.asking.Open as asking
 use Rattle.j39_node.specs.declared.incoming.Incoming.{Incoming}
-use Rattle.j39_node.specs.declared.incoming.Kept.{Kept}
-use Rattle.j39_node.specs.declared.incoming.Said.{Said}
 use Rattle.j39_node.specs.Hearing.{broadcast_senders, Listening, hears_in, is_unheard_in, listening, message_by, staying, those_over, unheard, unheard_news, waiting}
 use Rattle.j39_node.specs.Boxes.{in_box}
 use Rattle.j39_node.specs.declared.hearing.Hearing.{Hearing}
@@ -91,10 +91,10 @@ is_apart (Some m) reply = not (is_that m reply)
 abbrev pub ready : Who → List Call → ℕ → Ready
 ready w H now = record {
   overdue = is_overdue w H now;
-  reply = nat_lt 0 (length (reception w H).replies);
+  reply = nat_lt 0 (length (replies w H));
   message = nat_lt (reached H) (length (accepted w H));
   packet = has_packets w H && nat_le (pause H - step H now) slack;
-  transfer = is_apart (next_transfer w H now) (slice_get (reception w H).replies 0);
+  transfer = is_apart (next_transfer w H now) (slice_get (replies w H) 0);
 }
 
 -- what goes first of it. Behind a reply the next yields to the rest
@@ -120,7 +120,7 @@ turn_frame (Some Move) reply message packet transfer = transfer
 
 abbrev pub other : Who → List Call → ℕ → Option Message
 other w H now =
-    turn_frame (next_turn w H now) (slice_get (reception w H).replies 0) (slice_get (accepted w H) (reached H))
+    turn_frame (next_turn w H now) (slice_get (replies w H) 0) (slice_get (accepted w H) (reached H))
     (next_packet w H now) (next_transfer w H now)
 
 -- beside claims and acknowledgments, what goes from an address that is held
@@ -250,7 +250,7 @@ IsAnswered w H (TakeNews answer) = answer ≡ next_news w H
 IsAnswered w H (At now (Acknowledge r answer result)) = result ≡ answer_to_acknowledge w H now r
 IsAnswered w H (At now (Broadcast group bytes answer)) = answer ≡ answer_to_broadcast w H now group bytes
 IsAnswered w H (TakeBroadcastEnded answer) = answer ≡ next_broadcast_ended w H
-IsAnswered w H (ReleaseTransfer answer) = answer ≡ not (has_place (reception w H).waits)
+IsAnswered w H (ReleaseTransfer answer) = answer ≡ nat_lt 0 (length (reception w H).waits)
 IsAnswered w H (At now (Transfer group to bytes answer)) = answer ≡ answer_to_transfer w H now group to bytes
 IsAnswered w H (TakeTransferEnded answer) = answer ≡ next_transfer_ended w H
 IsAnswered w H (At now (Ask group to answer)) = answer ≡ answer_to_ask w H now group to
@@ -298,6 +298,8 @@ who_of brought own = record {
   served = own.served.items;
   subscribed = option_map (λ groups. groups.items) own.subscribed;
   boxes = own.boxes;
+  sessions = own.sessions;
+  window = own.window;
   brought = brought;
 }
 
@@ -309,6 +311,8 @@ who_for s = record {
   served = map pgn_raw s.served.now;
   subscribed = option_map (λ groups. map pgn_raw groups.now) s.subscribed;
   boxes = s.broadcasts;
+  sessions = s.sessions;
+  window = s.window;
   brought = nothing;
 }
 
@@ -366,41 +370,23 @@ lane_of w l = record { current = option_map (opened w) l.current; count = l.coun
 abbrev pub lane_after : Who → List Call → LaneRecord
 lane_after w H = record { current = open_broadcast w H; count = length (packets H); next_token = length (broadcasts w H) }
 
-abbrev pub said_by : ℕ → Said → Message
-said_by own x = reply_from own x.to x.bytes
-
-abbrev pub kept_by : Kept → ℕ × MessageRecord
-kept_by x = (stamp_micros x.stamp, record { source = x.source; pgn = pgn_raw x.group; bytes = x.bytes.items })
-
--- what is received, when the receiver was told the time, how late it is there, its address, and that it has its buffer
+-- the sessions, when they were told the time, how late it is there, and whose claim was called for
 pub record IncomingRecord : Type 0 where
   pub moment : ℕ
   pub clock : ℕ
-  pub own : ℕ
-  pub has_box : Bool
   pub called : Calling
-  pub reception : Reception
+  pub reception : SessionsRecord
 
 abbrev pub incoming_of : Incoming → IncomingRecord
 incoming_of x = record {
   moment = x.moment;
   clock = stamp_micros x.clock;
-  own = x.receiver.state.own;
-  has_box = x.receiver.has_box;
   called = record { left = x.called; whose = x.whom };
-  reception = record {
-    session = x.receiver.state.session;
-    since = stamp_micros x.since;
-    waits = option_map kept_by x.place;
-    replies = map (said_by x.receiver.state.own) x.replies.items;
-  };
+  reception = sessions_of x.sessions;
 }
 
-abbrev pub with_reception : Reception → IncomingRecord → IncomingRecord
+abbrev pub with_reception : SessionsRecord → IncomingRecord → IncomingRecord
 with_reception r x = record x { reception = r }
-
-abbrev pub with_replies : List Message → IncomingRecord → IncomingRecord
-with_replies replies x = record x { reception = record x.reception { replies = replies } }
 
 abbrev pub passed_to : ℕ → IncomingRecord → IncomingRecord
 passed_to now x = record x { moment = now; clock = later x.clock (now - x.moment); called = waned (now - x.moment) x.called }
@@ -408,36 +394,29 @@ passed_to now x = record x { moment = now; clock = later x.clock (now - x.moment
 abbrev pub with_called : Calling → IncomingRecord → IncomingRecord
 with_called k x = record x { called = k }
 
--- who holds an address since before, by who did
-abbrev pub still_by : (ℕ → Option ℕ) → ℕ → FrameRecord → IncomingRecord → ℕ → Option ℕ
-still_by before now f x = still (claimed_again before (waned (now - x.moment) x.called) (claim_of f)) before
+-- whose claim wasn't called for, by who held the addresses
+abbrev pub gone_by : (ℕ → Option ℕ) → ℕ → FrameRecord → IncomingRecord → Option ℕ
+gone_by before now f x = claimed_again before (waned (now - x.moment) x.called) (claim_of f)
+
+-- the sessions as the frame finds them, and once it was heard
+abbrev pub found : ℕ → FrameRecord → (ℕ → Option ℕ) → (ℕ → Option ℕ) → IncomingRecord → SessionsRecord
+found now f before after x = leaves (gone_by before now f x) after x.reception
+
+abbrev pub takes_in : Bool → Bool → ℕ → Option ℕ → FrameRecord → SessionsRecord → SessionsRecord
+takes_in true held now name f s = loses s
+takes_in false true now name f s = sessions_hear now name f s
+takes_in false false now name f s = s
 
 abbrev pub hears : Bool → Bool → ℕ → FrameRecord → (ℕ → Option ℕ) → (ℕ → Option ℕ) → IncomingRecord → IncomingRecord
 hears lost held now f before after x =
     with_called (called_for called_time (calls_whom before f (claim_of f)) (waned (now - x.moment) x.called))
-    (with_reception (heard_by x.own lost held f (later x.clock (now - x.moment))
-    (left (leaves (still_by before now f x) after x.reception.session) x.reception)) (passed_to now x))
+    (with_reception (takes_in lost held (later x.clock (now - x.moment)) (after (source_of f.id)) f (found now f before after x)) (passed_to now x))
 
 abbrev pub ticks : ℕ → IncomingRecord → IncomingRecord
-ticks now x = with_reception (ticked x.own now (later x.clock (now - x.moment)) x.reception) (passed_to now x)
-
--- the receiver takes its step at a frame, and what it delivers is kept with the frame's moment
-pub record Receives (old : BoxedReceiver) (f : FrameRecord) (now : ℕ) (waits : Option (ℕ × MessageRecord)) (sends : Option ToSend)
-    (after : Option (ℕ × MessageRecord)) (new : BoxedReceiver) : Type 0 where
-  pub state : new.state ≡ (recv_step old.state (Heard f) now true).after
-  pub box : new.has_box ≡ true
-  pub sends_it : sends ≡ (recv_step old.state (Heard f) now true).sends
-  pub keeps_it : after ≡ keeps f.stamp (recv_step old.state (Heard f) now true).delivers waits
+ticks now x = with_reception (sessions_tick (later x.clock (now - x.moment)) x.reception) (passed_to now x)
 
 abbrev pub incoming_after : Who → List Call → IncomingRecord
-incoming_after w H = record {
-  moment = heard_at H;
-  clock = time_heard H;
-  own = w.address;
-  has_box = true;
-  called = called w H;
-  reception = reception w H;
-}
+incoming_after w H = record { moment = heard_at H; clock = time_heard H; called = called w H; reception = reception w H }
 
 -- the open transfer, and the next token
 pub record PortRecord : Type 0 where
@@ -482,17 +461,6 @@ asking_of a = option_map ask_record a.current
 abbrev pub asked_by : Option Question → ℕ → Option AskEnding → Option AskRecord
 asked_by None n ending = None
 asked_by (Some q) n ending = Some (record { question = q; taken = nat_lt q.token n; ending = ending })
-
--- what waits, where nothing waited before
-abbrev pub made_by : Bool → Option (ℕ × MessageRecord) → Option (ℕ × ℕ)
-made_by true (Some x) = Some (x.1.source, x.1.pgn)
-made_by true None = None
-made_by false x = None
-
--- who holds the source of what waits, where nothing waited before
-abbrev pub sender_by_made : (ℕ → Option ℕ) → Option (ℕ × ℕ) → Option ℕ → Option ℕ
-sender_by_made holder None before = before
-sender_by_made holder (Some made) before = holder made.0
 
 -- a frame is heard, before which it ended so or not without a word
 abbrev pub silence : ℕ → Bool → Bool → Option AskRecord → Option AskEnding
@@ -610,10 +578,10 @@ releasing x = record { listening = record { current = x.listening.current; waits
 abbrev pub ready_in : Controller → Hold → Ready
 ready_in c hold = record {
   overdue = is_left (lane_of (who_of nothing c.own) c.lane).current c.lane.count && nat_eq hold.pause 0;
-  reply = nat_lt 0 (length c.incoming.replies.items);
+  reply = nat_lt 0 (length (replies_of (incoming_of c.incoming).reception));
   message = nat_lt c.taken (length c.outgoing.items);
   packet = is_left (lane_of (who_of nothing c.own) c.lane).current c.lane.count && nat_le hold.pause slack;
-  transfer = is_apart (transfer_by (port_of c.transfers).current (clock hold.age)) (slice_get (incoming_of c.incoming).reception.replies 0);
+  transfer = is_apart (transfer_by (port_of c.transfers).current (clock hold.age)) (slice_get (replies_of (incoming_of c.incoming).reception) 0);
 }
 
 -- what shows of a controller that was made for w
@@ -634,7 +602,6 @@ pub record View : Type 0 where
   pub incoming : IncomingRecord
   pub port : PortRecord
   pub hearing : HearingRecord
-  pub transfer_sender : Option ℕ
   pub broadcast_senders : List (Option ℕ)
 
 abbrev pub view : Who → Controller → View
@@ -655,7 +622,6 @@ view w c = record {
   incoming = incoming_of c.incoming;
   port = port_of c.transfers;
   hearing = hearing_of c.hearing;
-  transfer_sender = option_map name_raw c.transfer_sender;
   broadcast_senders = senders_of c.hearing;
 }
 
@@ -678,7 +644,6 @@ after w H = record {
   incoming = incoming_after w H;
   port = port_after w H;
   hearing = hearing_after w H;
-  transfer_sender = transfer_sender w H;
   broadcast_senders = broadcast_senders w H;
 }
 

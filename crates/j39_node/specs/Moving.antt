@@ -3,7 +3,7 @@ use Rattle.std.specs.Prelude.{◌&&◌, ◌+◌, ◌||◌, ◌∷◌, ◌≡◌}
 use Rattle.j39_node.specs.Common.{[], Bool, is_some, length, List, nat_eq, None, not, ℕ}
 use Rattle.j39_node.specs.declared.controller.Controller.{Controller}
 use Rattle.j39_node.specs.History.{Who, Call, accepted, got, handed, kept, moment, open_broadcast, requests, told, told_claims}
-use Rattle.j39_node.specs.Reception.{has_place, reception}
+use Rattle.j39_node.specs.Reception.{reception}
 use Rattle.j39_node.specs.Hearing.{waiting}
 use Rattle.j39_node.specs.Transfers.{open_transfer, rest, resting}
 use Rattle.j39_node.specs.Asking.{open_ask}
@@ -19,7 +19,7 @@ pub record IsSettled (w : Who) (H : List Call) : Type 0 where
   pub request : open_ask H ≡ None
   pub received : length (got H) ≡ length (kept w H)
   pub requests_taken : length (handed H) ≡ length (requests w H)
-  pub received_transfer : (reception w H).waits ≡ None
+  pub received_transfer : (reception w H).waits ≡ []
   pub received_broadcast : waiting w H ≡ []
   pub news : next_news w H ≡ None
 
@@ -32,6 +32,8 @@ moved w H address = record {
   served = w.served;
   subscribed = w.subscribed;
   boxes = w.boxes;
+  sessions = w.sessions;
+  window = w.window;
   brought = record {
     known = told_claims w H;
     resting = resting w H;
@@ -57,5 +59,5 @@ abbrev pub has_given : Controller → Bool
 has_given c =
     nat_eq (length c.inbox.unread.items) 0
     && (nat_eq (length c.desk.waiting.items) 0
-    && (has_place (incoming_of c.incoming).reception.waits
+    && (nat_eq (length (incoming_of c.incoming).reception.waits) 0
     && (nat_eq (length c.hearing.whole.items) 0 && not (c.news.lost || (c.news.another || (is_some c.news.doubled || c.news.missed))))))

@@ -1,7 +1,7 @@
 -- A driver that is prompt, by its calls alone.
 use Rattle.std.specs.Prelude.{if◌then◌else◌, ◌&&◌, ◌++◌, ◌+◌, ◌||◌, ◌∷◌, ◌≡◌, ◌≤◌}
 use Rattle.j39_node.specs.Common.{[], Bool, destination_of, false, FrameRecord, List, None, not, slice_get, Some, suc, true, ℕ}
-use Rattle.j39_node.specs.Reception.{is_reply, reception}
+use Rattle.j39_node.specs.Reception.{is_reply, replies}
 use Rattle.j39_node.specs.History.{is_some, is_transfer, is_packet, is_acknowledgment, is_claim, Call, moment, step, Message, Who}
 use Rattle.j39_node.specs.History.Call.{At, TakeBroadcastEnded, TakeTransferEnded}
 use Rattle.j39_node.specs.History.Act.{Again, TakeFrame}
@@ -76,10 +76,10 @@ taken_for to (call ∷ later) = taken_for to later
 
 -- this reply is the first that waits, before each of these calls and behind them, and none is taken
 abbrev pub takes_reply : Who → List Call → Call → Bool
-takes_reply w H (At now (TakeFrame (Some f))) = is_reply (reception w H).replies f
+takes_reply w H (At now (TakeFrame (Some f))) = is_reply (replies w H) f
 takes_reply w H call = false
 
 abbrev pub StaysFirst : Who → Message → List Call → List Call → Type 0
-StaysFirst w m [] earlier = slice_get (reception w earlier).replies 0 ≡ Some m
+StaysFirst w m [] earlier = slice_get (replies w earlier) 0 ≡ Some m
 StaysFirst w m (call ∷ later) earlier =
-    StaysFirst w m later earlier × (takes_reply w (later ++ earlier) call ≡ false) × (slice_get (reception w (call ∷ later ++ earlier)).replies 0 ≡ Some m)
+    StaysFirst w m later earlier × (takes_reply w (later ++ earlier) call ≡ false) × (slice_get (replies w (call ∷ later ++ earlier)) 0 ≡ Some m)

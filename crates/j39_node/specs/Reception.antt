@@ -1,9 +1,11 @@
 -- Messages that come in packets to the address that is held (J1939-21, 5.10.3): what a history says of them.
-use Rattle.std.specs.Prelude.{if◌then◌else◌, ◌&&◌, ◌*◌, ◌++◌, ◌+◌, ◌-◌, ◌==◌, ◌||◌, ◌∷◌, ◌≡◌, ◌⊎◌}
-use Rattle.j39_node.specs.Common.{[], Abort, address_claimed_group, answers, Bool, bytes_eq, called_time, Claim, claim_of, drop, false, FrameRecord, global_address, Heard, last_stamp, length, limit_of, List, MessageRecord, min, nat_eq, nat_lt, None, not, null_address, Option, option_map, Packet, partner_of, places, ReceiverRecord, ReceptionRecord, recv_step, RecvResult, result_of, said_to, Signal, slice_get, Some, source_of, suc, Ticks, timeout, timer_t2, ToSend, transport_control_group, true, WasHanded, ℕ}
+use Rattle.std.specs.Prelude.{if◌then◌else◌, ◌&&◌, ◌++◌, ◌+◌, ◌-◌, ◌||◌, ◌∷◌, ◌≡◌}
+use Rattle.j39_node.specs.Common.{[], address_claimed_group, Bool, bytes_eq, called_time, Claim, claim_of, false, FrameRecord, global_address, is_same, last_stamp, length, List, listed, map, MessageRecord, min, nat_eq, nat_lt, None, not, null_address, Option, option_map, places, slice_get, Some, source_of, suc, take, ToSend, transport_control_group, true, unwrap_or, WasHanded, ℕ}
 use Rattle.j39_node.specs.History.{reached, Who, Message, Call, accepted, acknowledged, due, got, kept, is_for_program, holds, asks_with, is_claim, is_session, is_smaller, is_some, is_transfer, message_of, stamp_at, of_other, is_acknowledgment}
 use Rattle.j39_node.specs.History.Call.{At, ReleaseTransfer}
 use Rattle.j39_node.specs.History.Act.{Hear, Tick, TakeFrame}
+use Rattle.j39_sessions.specs.Events.{after, Event, Hears, Leaves, Loses, Releases, Says, Ticks}
+use Rattle.j39_sessions.specs.Sessions.{earliest, leaves, made, of, Reply, said, Session, SessionsRecord}
 
 -- ---- who holds an address (J1939-81, 4.2.2)
 
@@ -34,12 +36,6 @@ senders w (At now (Hear f) ∷ H) =
     then senders w H ++ holder w H (source_of f.id) ∷ []
     else senders w H
 senders w (call ∷ H) = senders w H
-
-abbrev pub is_same : Option ℕ → Option ℕ → Bool
-is_same None None = true
-is_same None (Some n) = false
-is_same (Some m) None = false
-is_same (Some m) (Some n) = nat_eq m n
 
 -- ---- time: the sum of the forward steps from one frame heard or tick to the next, as a stamp can tell it
 
@@ -133,121 +129,36 @@ abbrev pub known_by : Who → Call → List Call → ℕ → Option ℕ
 known_by w (At now (Hear f)) H = known w H now f
 known_by w call H = holder w H
 
--- ---- what is received
+-- ---- what is received: what the sessions of its address (`j39_sessions`) went through, the newest first
 
--- the open session, and the time since which its source has one open; the message that waits for the program with the moment of its last
--- packet, and the replies that wait
-pub record Reception : Type 0 where
-  pub session : Option ReceptionRecord
-  pub since : ℕ
-  pub waits : Option (ℕ × MessageRecord)
-  pub replies : List Message
+-- by a frame the address is lost, or it is heard at the address that is held, or neither
+abbrev pub heard_by : Bool → Bool → ℕ → Option ℕ → FrameRecord → List Event → List Event
+heard_by true held now name f E = Loses ∷ E
+heard_by false true now name f E = Hears now name f ∷ E
+heard_by false false now name f E = E
 
-abbrev pub receiver_at : ℕ → Reception → ReceiverRecord
-receiver_at own r = record { own = own; session = r.session }
+-- the frame that is taken is a claim, the first reply, or another
+abbrev pub taken_by : Bool → Bool → (ℕ → Option ℕ) → List Event → List Event
+taken_by true reply holder E = Leaves None holder ∷ E
+taken_by false true holder E = Says ∷ E
+taken_by false false holder E = E
 
--- no message waits
-abbrev pub has_place : Option (ℕ × MessageRecord) → Bool
-has_place None = true
-has_place (Some x) = false
+abbrev pub released_by : Bool → List Event → List Event
+released_by true E = Releases ∷ E
+released_by false E = E
 
-abbrev pub keeps : ℕ → Option MessageRecord → Option (ℕ × MessageRecord) → Option (ℕ × MessageRecord)
-keeps stamp None waits = waits
-keeps stamp (Some m) waits = Some (stamp, m)
+abbrev pub sessions_after : Who → List Event → SessionsRecord
+sessions_after w E = after w.address w.window w.sessions E
 
-abbrev pub goes_to : ℕ → Message → Bool
-goes_to a m = is_some m.destination a
-
--- the replies that don't go to this address
-abbrev pub without : ℕ → List Message → List Message
-without a [] = []
-without a (m ∷ replies) = if goes_to a m then without a replies else m ∷ without a replies
-
--- what a receiver says, of priority 7
+-- what is said in a session, of priority 7
 abbrev pub reply_from : ℕ → ℕ → List ℕ → Message
 reply_from own a bytes = record { source = own; destination = Some a; priority = 7; group = transport_control_group; bytes = bytes }
 
--- a reply to this address takes the place of an older one; where sixteen to others wait, it isn't said
-abbrev pub replied : ℕ → ℕ → Option ToSend → List Message → List Message
-replied own a None replies = replies
-replied own a (Some f) replies =
-    if nat_lt (length (without a replies)) places then without a replies ++ reply_from own a f.bytes ∷ [] else without a replies
+abbrev pub said_from : ℕ → Reply → Message
+said_from own x = reply_from own x.to x.bytes
 
-abbrev pub takes : ℕ → ℕ → ℕ → RecvResult → Reception → Reception
-takes stamp since a x r = record {
-  session = x.after.session;
-  since = since;
-  waits = keeps stamp x.delivers r.waits;
-  replies = replied x.after.own a x.sends r.replies;
-}
-
--- the number of a packet of the open session's source
-abbrev pub number_in : Option Signal → Option ℕ
-number_in (Some (Packet number part)) = Some number
-number_in other = None
-
-abbrev pub packet_in : ℕ → FrameRecord → Option ReceptionRecord → Option ℕ
-packet_in own f None = None
-packet_in own f (Some r) = if nat_eq (source_of f.id) r.message.source then number_in (said_to own f) else None
-
--- it is neither the next one nor the last that was granted
-abbrev pub strays : Option ℕ → Option ReceptionRecord → Bool
-strays None o = false
-strays (Some k) None = false
-strays (Some k) (Some r) = not (k == r.message.count + 1 || k == r.granted)
-
--- what the receiver is shown: of such a packet nothing that it says (own)
-abbrev pub shown : ℕ → Option ReceptionRecord → FrameRecord → FrameRecord
-shown own o f = record { stamp = f.stamp; id = f.id; bytes = if strays (packet_in own f o) o then [] else f.bytes }
-
--- the receiver's step at it, by the standard: there is room for the message of an RTS where none waits
-abbrev pub step_at : ℕ → FrameRecord → ℕ → Reception → RecvResult
-step_at own f now r = recv_step (receiver_at own r) (Heard (shown own r.session f)) now (has_place r.waits)
-
--- it counts from an RTS by which one is open where none was: one in place of an open session begins no new account
-abbrev pub since_by : Option ReceptionRecord → Option ReceptionRecord → ℕ → ℕ → ℕ
-since_by None (Some r) now since = now
-since_by None None now since = since
-since_by (Some r) after now since = since
-
--- another NAME holds the source of the session
-abbrev pub leaves : (ℕ → Option ℕ) → (ℕ → Option ℕ) → Option ReceptionRecord → Bool
-leaves before after None = false
-leaves before after (Some r) = not (is_same (before r.message.source) (after r.message.source))
-
--- the session and what waits to be said to its source are dropped
-abbrev pub left : Bool → Reception → Reception
-left false r = r
-left true r = record { session = None; since = r.since; waits = r.waits; replies = without (partner_of r.session) r.replies }
-
--- the address is lost, it is held, or neither
-abbrev pub heard_by : ℕ → Bool → Bool → FrameRecord → ℕ → Reception → Reception
-heard_by own true held f now r = record { session = None; since = r.since; waits = r.waits; replies = [] }
-heard_by own false true f now r =
-    takes f.stamp (since_by r.session (step_at own f now r).after.session now r.since) (source_of f.id) (step_at own f now r) r
-heard_by own false false f now r = r
-
--- sessions of one source may take so long till one of n packets is whole (own)
-abbrev pub longest : ℕ → ℕ
-longest n = (n + 3) * timer_t2
-
-abbrev pub is_over : ℕ → ℕ → Option ReceptionRecord → Bool
-is_over since now None = false
-is_over since now (Some r) = nat_lt (since + longest r.message.packets) now
-
-abbrev pub group_of : Option ReceptionRecord → ℕ
-group_of None = 0
-group_of (Some r) = r.message.group
-
--- a tick: abort 3 where that is over, else the receiver's step
-abbrev pub ticked_at : ℕ → ℕ → Reception → RecvResult
-ticked_at own now r =
-    if is_over r.since now r.session
-    then result_of own (partner_of r.session) (answers None (Abort timeout (group_of r.session)))
-    else recv_step (receiver_at own r) Ticks now true
-
-abbrev pub ticked : ℕ → ℕ → ℕ → Reception → Reception
-ticked own stamp now r = takes stamp r.since (partner_of r.session) (ticked_at own now r) r
+abbrev pub replies_of : SessionsRecord → List Message
+replies_of s = map (said_from s.own) s.replies
 
 -- x is this reply
 abbrev pub is_that : Message → Option Message → Bool
@@ -258,81 +169,59 @@ is_that x (Some m) = nat_eq x.group m.group && (is_same x.destination m.destinat
 abbrev pub is_reply : List Message → FrameRecord → Bool
 is_reply replies f = is_transfer f && is_that (message_of f) (slice_get replies 0)
 
--- the frame that is taken is a claim, another than a reply, or the first reply
-abbrev pub taken_by : Bool → Bool → Bool → Reception → Reception
-taken_by true replies leaves r = left leaves r
-taken_by false false leaves r = r
-taken_by false true leaves r = record { session = r.session; since = r.since; waits = r.waits; replies = drop 1 r.replies }
+abbrev pub events : Who → List Call → List Event
+events w [] = []
+events w (At now (Hear f) ∷ H) =
+    heard_by (is_smaller w (claim_of f)) (holds w H now) (time_heard (At now (Hear f) ∷ H)) (holder w (At now (Hear f) ∷ H) (source_of f.id)) f
+    (Leaves (restarts w H now f) (holder w (At now (Hear f) ∷ H)) ∷ events w H)
+events w (At now Tick ∷ H) = Ticks (time_heard (At now Tick ∷ H)) ∷ events w H
+events w (At now (TakeFrame (Some f)) ∷ H) =
+    taken_by (is_claim f) (is_reply (replies_of (sessions_after w (events w H))) f) (holder w (At now (TakeFrame (Some f)) ∷ H)) (events w H)
+events w (ReleaseTransfer answer ∷ H) = released_by answer (events w H)
+events w (call ∷ H) = events w H
 
-abbrev pub released_by : Bool → Reception → Reception
-released_by false r = r
-released_by true r = record { session = r.session; since = r.since; waits = None; replies = r.replies }
+-- the sessions, the messages that wait for the program, and what waits to be said
+abbrev pub reception : Who → List Call → SessionsRecord
+reception w H = sessions_after w (events w H)
 
-abbrev pub no_reception : Reception
-no_reception = record { session = None; since = 0; waits = None; replies = [] }
+abbrev pub replies : Who → List Call → List Message
+replies w H = replies_of (reception w H)
 
-abbrev pub reception : Who → List Call → Reception
-reception w [] = no_reception
-reception w (At now (Hear f) ∷ H) =
-    heard_by w.address (is_smaller w (claim_of f)) (holds w H now) f (time_heard (At now (Hear f) ∷ H))
-    (left (leaves (known w H now f) (holder w (At now (Hear f) ∷ H)) (reception w H).session) (reception w H))
-reception w (At now Tick ∷ H) = ticked w.address now (time_heard (At now Tick ∷ H)) (reception w H)
-reception w (At now (TakeFrame (Some f)) ∷ H) =
-    taken_by (is_claim f) (is_reply (reception w H).replies f)
-    (leaves (holder w H) (holder w (At now (TakeFrame (Some f)) ∷ H)) (reception w H).session) (reception w H)
-reception w (ReleaseTransfer answer ∷ H) = released_by answer (reception w H)
-reception w (call ∷ H) = reception w H
+-- the session of a source
+abbrev pub session : Who → List Call → ℕ → Option Session
+session w H a = of a (reception w H).sessions
+
+-- as a frame finds them: those are over whose source has another holder by it, or restarted
+abbrev pub found_by : Who → List Call → ℕ → FrameRecord → SessionsRecord
+found_by w H now f = leaves (restarts w H now f) (holder w (At now (Hear f) ∷ H)) (reception w H)
 
 -- the frame that was taken last, but for claims and acknowledgments, was a reply
 abbrev pub yields : Who → List Call → Bool
 yields w [] = false
-yields w (At now (TakeFrame (Some f)) ∷ H) = if is_claim f || is_acknowledgment f then yields w H else is_reply (reception w H).replies f
+yields w (At now (TakeFrame (Some f)) ∷ H) = if is_claim f || is_acknowledgment f then yields w H else is_reply (replies w H) f
 yields w (call ∷ H) = yields w H
 
--- no session is open while a message waits
-abbrev pub IsApart : Reception → Type 0
-IsApart r = (r.waits ≡ None) ⊎ (r.session ≡ None)
-
 abbrev pub is_move : Who → List Call → FrameRecord → Bool
-is_move w H f = is_transfer f && not (is_that (message_of f) (slice_get (reception w H).replies 0))
+is_move w H f = is_transfer f && not (is_that (message_of f) (slice_get (replies w H) 0))
 
 -- ---- which messages
 
-abbrev pub listed : Option (ℕ × MessageRecord) → List (ℕ × MessageRecord)
-listed None = []
-listed (Some x) = x ∷ []
-
-abbrev pub whole_by : ℕ → Bool → Bool → FrameRecord → ℕ → Reception → Option MessageRecord
-whole_by own true held f now r = None
-whole_by own false true f now r = (step_at own f now r).delivers
-whole_by own false false f now r = None
+abbrev pub if_heard : {T : Type 0} → Bool → Bool → Option T → Option T
+if_heard true held x = None
+if_heard false true x = x
+if_heard false false x = None
 
 -- the message that the frame makes whole
 abbrev pub whole : Who → List Call → ℕ → FrameRecord → Option MessageRecord
-whole w H now f =
-    whole_by w.address (is_smaller w (claim_of f)) (holds w H now) f (time_heard (At now (Hear f) ∷ H))
-    (left (leaves (known w H now f) (holder w (At now (Hear f) ∷ H)) (reception w H).session) (reception w H))
-
-abbrev pub says_by : ℕ → Bool → Bool → FrameRecord → ℕ → Reception → Option ToSend
-says_by own true held f now r = None
-says_by own false true f now r = (step_at own f now r).sends
-says_by own false false f now r = None
+whole w H now f = if_heard (is_smaller w (claim_of f)) (holds w H now) (made (time_heard (At now (Hear f) ∷ H)) f (found_by w H now f))
 
 -- what is said to the frame
 abbrev pub says : Who → List Call → ℕ → FrameRecord → Option ToSend
-says w H now f =
-    says_by w.address (is_smaller w (claim_of f)) (holds w H now) f (time_heard (At now (Hear f) ∷ H))
-    (left (leaves (known w H now f) (holder w (At now (Hear f) ∷ H)) (reception w H).session) (reception w H))
+says w H now f = if_heard (is_smaller w (claim_of f)) (holds w H now) (said (time_heard (At now (Hear f) ∷ H)) f (found_by w H now f))
 
--- the NAME that held the source of the one that was whole last, when it was
-abbrev pub sender_of : (ℕ → Option ℕ) → Option MessageRecord → Option ℕ → Option ℕ
-sender_of holder None before = before
-sender_of holder (Some m) before = holder m.source
-
+-- the NAME that held the source of the oldest that waits, from its RTS to its last packet
 abbrev pub transfer_sender : Who → List Call → Option ℕ
-transfer_sender w [] = None
-transfer_sender w (At now (Hear f) ∷ H) = sender_of (holder w (At now (Hear f) ∷ H)) (whole w H now f) (transfer_sender w H)
-transfer_sender w (call ∷ H) = transfer_sender w H
+transfer_sender w H = unwrap_or (slice_get (reception w H).senders 0) None
 
 -- those that were whole, each with the moment of its last packet
 abbrev pub delivered : Who → List Call → List (ℕ × MessageRecord)
@@ -343,7 +232,7 @@ delivered w (call ∷ H) = delivered w H
 -- those that the program got
 abbrev pub got_transfers : Who → List Call → List (ℕ × MessageRecord)
 got_transfers w [] = []
-got_transfers w (ReleaseTransfer true ∷ H) = got_transfers w H ++ listed (reception w H).waits
+got_transfers w (ReleaseTransfer true ∷ H) = got_transfers w H ++ take 1 (reception w H).waits
 got_transfers w (call ∷ H) = got_transfers w H
 
 -- ---- of one sender
@@ -375,15 +264,12 @@ pub record CameFromOne (w : Who) (H : List Call) (m : MessageRecord) : Type 0 wh
 abbrev pub is_waiting : Who → List Call → Bool
 is_waiting w H =
     nat_lt (reached H) (length (accepted w H)) || (nat_lt (length (acknowledged H)) (length (due w H))
-    || nat_lt 0 (length (reception w H).replies))
+    || nat_lt 0 (length (replies w H)))
 
 -- the first moment at which a tick says something, by when the last one was
-abbrev pub limit_in : ℕ → ReceptionRecord → ℕ
-limit_in since r = min (r.message.last + limit_of r) (since + longest r.message.packets)
-
-abbrev pub tick_at : ℕ → Option ReceptionRecord → ℕ → ℕ → Option ℕ
-tick_at since None last clock = None
-tick_at since (Some r) last clock = stamp_at (last + (suc (limit_in since r) - clock))
+abbrev pub tick_at : Option ℕ → ℕ → ℕ → Option ℕ
+tick_at None last clock = None
+tick_at (Some limit) last clock = stamp_at (last + (suc limit - clock))
 
 abbrev pub session_tick : Who → List Call → Option ℕ
-session_tick w H = tick_at (reception w H).since (reception w H).session (heard_at H) (time_heard H)
+session_tick w H = tick_at (earliest (reception w H).sessions) (heard_at H) (time_heard H)

@@ -1,12 +1,13 @@
 -- The first moment at which a tick does something but let time pass; and a driver that ticks in time, by its calls alone.
 use Rattle.std.specs.Prelude.{◌++◌, ◌+◌, ◌∷◌, ◌≡◌, ◌≤◌}
-use Rattle.j39_node.specs.Common.{[], List, None, Option, packets_for, ReceptionRecord, Some, ℕ}
+use Rattle.j39_node.specs.Common.{[], List, None, Option, packets_for, Some, ℕ}
 use Rattle.j39_node.specs.History.{Who, Call, moment, step}
 use Rattle.j39_node.specs.History.Call.{At}
 use Rattle.j39_node.specs.History.Act.{Tick}
 use Rattle.j39_node.specs.Asking.{request_tick}
 use Rattle.j39_node.specs.Hearing.{OpenBroadcast, hearing, hearing_tick, of, over_by}
-use Rattle.j39_node.specs.Reception.{reception, session_tick}
+use Rattle.j39_node.specs.Reception.{session, session_tick}
+use Rattle.j39_sessions.specs.Sessions.{Session}
 use Rattle.j39_node.specs.Transfers.{sooner}
 
 -- of the session, of a broadcast that is heard, or of the open request
@@ -25,14 +26,14 @@ TicksWithin g [] earlier = Unit {0}
 TicksWithin g (call ∷ later) earlier =
     TicksWithin g later earlier × (unticked_in later earlier + step (later ++ earlier) (moment (call ∷ later ++ earlier)) ≤ g)
 
--- a session is open after each of these calls, each of a message of at most n packets
-abbrev pub IsOpenOf : ℕ → Option ReceptionRecord → Type 0
+-- a session of the source is open after each of these calls, each of a message of at most n packets
+abbrev pub IsOpenOf : ℕ → Option Session → Type 0
 IsOpenOf n None = ⊥
-IsOpenOf n (Some r) = r.message.packets ≤ n
+IsOpenOf n (Some x) = x.reception.message.packets ≤ n
 
-abbrev pub StaysOpen : Who → ℕ → List Call → List Call → Type 0
-StaysOpen w n [] earlier = IsOpenOf n (reception w earlier).session
-StaysOpen w n (call ∷ later) earlier = StaysOpen w n later earlier × IsOpenOf n (reception w (call ∷ later ++ earlier)).session
+abbrev pub StaysOpen : Who → ℕ → ℕ → List Call → List Call → Type 0
+StaysOpen w source n [] earlier = IsOpenOf n (session w earlier source)
+StaysOpen w source n (call ∷ later) earlier = StaysOpen w source n later earlier × IsOpenOf n (session w (call ∷ later ++ earlier) source)
 
 -- a broadcast of the source is open after each of these calls, on one account, each of at most n packets
 abbrev pub IsHeardOf : ℕ → Option OpenBroadcast → Type 0

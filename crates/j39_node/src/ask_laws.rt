@@ -15,9 +15,9 @@ ghost use Rattle.j39_node.specs.declared.kinds.Refused.TheVariants as refused;
 ghost use Rattle.j39_node.specs.History.{reached, Who, Call, accepted, address_after, holds, is_lost, is_smaller, message_of, sent, step, told};
 ghost use Rattle.j39_node.specs.History.Call.{At, TakeAskEnded};
 ghost use Rattle.j39_node.specs.History.Act.{Ask, Hear, TakeFrame, Tick};
-ghost use Rattle.j39_node.specs.Reception.{reception, time_heard, whole};
+ghost use Rattle.j39_node.specs.Reception.{session, time_heard, whole};
 ghost use Rattle.j39_node.specs.Hearing.{OpenBroadcast, hearing, is_late, made_whole};
-ghost use Rattle.j39_transport.specs.Reception.{ReceptionRecord};
+ghost use Rattle.j39_sessions.specs.Sessions.{Session};
 ghost use Rattle.j39_node.specs.Asking.{AskedSince, HeardFirst, NoneEnds, Question, RanOut, asks, can_ask, comes, ended, is_request, is_taken, made, next_ask_ended, open_ask, says_to, told_asks, wait};
 ghost use Rattle.j39_node.specs.AskExample.{ask_example};
 ghost use Rattle.j39_node.specs.Example.{two};
@@ -114,7 +114,7 @@ pub fn packets_answer()
         → made_whole w H now f ≡ Some x → x.1.pgn ≡ q.group → (q.to ≡ global_address) ⊎ (x.1.source ≡ q.to)
         → says_to w q f (made w H now f) ≡ Some ending.Answered }
     ensures coming { (w : Who) (H : List Call) (time : ℕ) (q : Question) → open_ask H ≡ Some q → (IsTrue (comes w H time)
-        ↔ (((r : ReceptionRecord) × ((reception w H).session ≡ Some r) × (r.message.source ≡ q.to) × (r.message.group ≡ q.group))
+        ↔ (((x : Session) × (session w H q.to ≡ Some x) × (x.reception.message.group ≡ q.group))
         ⊎ ((x : OpenBroadcast) × (a : ℕ) × (hearing w H a ≡ Some x) × (is_late time x ≡ false) × (x.group ≡ q.group)
         × ((q.to ≡ global_address) ⊎ (x.source ≡ q.to))))) }
 {}

@@ -7,10 +7,11 @@ ghost use Rattle.j39_frame.specs.Pgn.{pgn_raw};
 ghost use Rattle.j39_node.specs.History.{carried, is_some, message_from, request_for, nothing};
 ghost use Rattle.j39_frame.specs.Identifier.{id_raw};
 ghost use Rattle.j39_frame.specs.Stamp.{stamp_micros};
-ghost use Rattle.j39_node.specs.Is.{claims_request, hearing_of, posted, stamped, who_of};
-ghost use Rattle.j39_node.specs.Asking.{can_ask, first, is_answer, is_from, is_of, is_reply, question, reaches, said_by, says_to, seeks, silent_end};
+ghost use Rattle.j39_node.specs.Is.{claims_request, hearing_of, incoming_of, posted, stamped, who_of};
+ghost use Rattle.j39_node.specs.Asking.{can_ask, first, is_answer, is_of, is_reply, question, reaches, said_by, says_to, seeks, silent_end};
 
 use crate::hearing::Hearing;
+use crate::incoming::Incoming;
 use crate::outgoing::{Outgoing, is_sendable};
 use crate::own::{ACKNOWLEDGMENT, ADDRESS_CLAIMED, Own, REQUEST, is_to, is_undirected};
 use crate::{Answer, AskEnding};
@@ -80,16 +81,6 @@ impl Open {
             said_by(frame.bytes.as_slice())
         } else {
             None
-        }
-    }
-
-    /// Whether a session of this source and group is one of whom was asked, and of the group.
-    fn is_from(&self, session: Option<(u8, u32)>) -> bool
-        ensures { result ≡ is_from (ask_record self.now).question session }
-    {
-        match session {
-            Some((source, group)) => source == self.to && group == self.group.raw(),
-            None => false,
         }
     }
 
@@ -163,18 +154,14 @@ impl Asking {
         }
     }
 
-    /// Whether an answer to the open request is on its way at this time, in the session of this source and group, or a broadcast.
-    pub(crate) fn is_coming(
-        &self,
-        session: Option<(u8, u32)>,
-        hearing: &Hearing,
-        time: Stamp,
-    ) -> bool
-        ensures { result ≡ is_coming (stamp_micros time) (option_map (λ x. x.question) (asking_of self.now)) session (hearing_of hearing.now).listening.current }
+    /// Whether an answer to the open request is on its way at this time, in a session or a broadcast.
+    pub(crate) fn is_coming(&self, incoming: &Incoming, hearing: &Hearing, time: Stamp) -> bool
+        ensures { result ≡ is_coming (stamp_micros time) (option_map (λ x. x.question) (asking_of self.now)) (incoming_of incoming.now).reception.sessions (hearing_of hearing.now).listening.current }
     {
         match &self.current {
             Some(open) => {
-                open.is_from(session) || hearing.is_coming(open.group.raw(), open.to, time)
+                incoming.is_open(open.to, open.group)
+                    || hearing.is_coming(open.group.raw(), open.to, time)
             }
             None => false,
         }

@@ -7,7 +7,8 @@ ghost use Rattle.j39_address.specs.Name.{name_raw};
 ghost use Rattle.j39_address.specs.Claim.{claims_of};
 ghost use Rattle.j39_address.specs.Holder.{IsHolderAfter};
 ghost use Rattle.j39_address.specs.Node.{IsLeastFree, NoneFree};
-ghost use Rattle.j39_transport.specs.Receiving.{new_receiver};
+ghost use Rattle.j39_sessions.specs.Sessions.{none_of};
+ghost use Rattle.j39_sessions.specs.Shown.{sessions_of};
 ghost use Rattle.j39_node.specs.History.{Who, Call, missed, told_claims, nothing};
 ghost use Rattle.j39_node.specs.Hearing.{unheard};
 ghost use Rattle.j39_node.specs.Moving.{HasMoved, IsSettled, has_given, has_told};
@@ -36,7 +37,7 @@ use crate::transfers::{self, Transfers};
 use arrayvec::ArrayVec;
 use j39_address::{Claims, Name, Status};
 use j39_frame::{NULL_ADDRESS, Pgn};
-use j39_transport::Receiver;
+use j39_sessions::Sessions;
 use std::alloc::{AllocError, Global};
 
 /// A controller of one address: it claims it, defends it, sends messages of one frame and receives those of others, sends longer
@@ -63,8 +64,6 @@ pub struct Controller {
     incoming: Incoming,
     transfers: Transfers,
     hearing: Hearing,
-    /// Who held the source of the message in packets that came to its address last, when it was whole.
-    transfer_sender: Option<Name>,
     news: Untold,
 }
 
@@ -83,11 +82,12 @@ impl Controller {
         let Some(own) = Own::new(setup) else {
             return Ok(None);
         };
-        let Some(receiver) = Receiver::with_buffer(alloc, setup.address)? else {
+        let Some(sessions) = Sessions::new(alloc, setup.address, setup.window, setup.sessions)?
+        else {
             return Ok(None);
         };
         let hearing = Hearing::new(alloc, setup.broadcasts)?;
-        Ok(Some(Controller::begun(own, receiver, hearing)))
+        Ok(Some(Controller::begun(own, sessions, hearing)))
     }
 
     /// The same, built in a box of its own: so it takes little stack.
@@ -99,11 +99,12 @@ impl Controller {
         let Some(own) = Own::new(setup) else {
             return Ok(None);
         };
-        let Some(receiver) = Receiver::with_buffer(alloc, setup.address)? else {
+        let Some(sessions) = Sessions::new(alloc, setup.address, setup.window, setup.sessions)?
+        else {
             return Ok(None);
         };
         let hearing = Hearing::new(alloc, setup.broadcasts)?;
-        match Box::new(alloc, Controller::begun(own, receiver, hearing)) {
+        match Box::new(alloc, Controller::begun(own, sessions, hearing)) {
             Ok(controller) => Ok(Some(controller)),
             Err(_) => Err(AllocError),
         }
@@ -111,8 +112,8 @@ impl Controller {
 
     /// Nothing was called of it.
     #[inline(always)]
-    fn begun(own: Own, receiver: Receiver, hearing: Hearing) -> Controller
-        requires receiver { receiver ≡ record { state = new_receiver own.address; has_box = true } }
+    fn begun(own: Own, sessions: Sessions, hearing: Hearing) -> Controller
+        requires sessions { sessions_of sessions ≡ none_of own.address own.window own.sessions }
         requires hearing { hearing_of hearing ≡ hearing_after (who_of nothing own) [] }
         requires senders { senders_of hearing ≡ [] }
         ensures { Is (who_of nothing own) [] result }
@@ -128,10 +129,9 @@ impl Controller {
             desk: Desk::new(),
             holders: Claims::new(),
             lane: Lane::new(),
-            incoming: Incoming::new(receiver),
+            incoming: Incoming::new(sessions),
             transfers: Transfers::new(),
             hearing,
-            transfer_sender: None,
             news: Untold::none(),
         }
     }
@@ -226,7 +226,6 @@ impl Controller {
         self.lane = Lane::new();
         self.transfers.begin_anew();
         self.hearing.begin_anew();
-        self.transfer_sender = None;
         true
     }
 
@@ -262,7 +261,7 @@ impl Controller {
     {
         self.inbox.unread.is_empty()
             && self.desk.waiting.is_empty()
-            && self.incoming.place.is_none()
+            && !self.incoming.sessions.is_waiting()
             && !self.hearing.is_waiting()
             && self.news.is_none()
     }

@@ -2,7 +2,7 @@
 ghost use Rattle.std.specs.Prelude.{◌≡◌, ◌⊎◌, ◌+◌, ◌-◌, ◌*◌, false, ◌<◌, ◌≤◌, ◌++◌, ℕ, List, ◌∷◌, length, Some, Ok, IsTrue, []};
 ghost use Rattle.j39_transport.specs.Message.{packets_of};
 ghost use Rattle.j39_transport.specs.Protocol.{gap, timer_t3};
-ghost use Rattle.j39_node.specs.Reception.{is_reply, reception};
+ghost use Rattle.j39_node.specs.Reception.{is_reply, replies};
 ghost use Rattle.j39_node.specs.SteadyExample.{announced_start, asked_start, between_packets, claims_asked, message_start, steady_example, steady_start, transfer_accepted, turns_example, two_claims};
 ghost use Rattle.j39_node.specs.declared.controller.Controller.{Controller};
 ghost use Rattle.j39_node.specs.declared.kinds.Ending.{Ending};
@@ -183,7 +183,7 @@ pub fn an_example_of_turns()
     ensures answered { AreAnswered two turns_example }
     ensures others { IsTrue (is_claim (own_claim 300006)) × (next_other two (At 300007 (Hear (claims_asked 300007)) ∷ two_claims) 300008
         ≡ Some (message_of (busy_to 300008))) }
-    ensures behind_a_reply { IsTrue (is_reply (reception two asked_start).replies (clear_to 300001))
+    ensures behind_a_reply { IsTrue (is_reply (replies two asked_start) (clear_to 300001))
         × (reached (At 300001 (TakeFrame (Some (clear_to 300001))) ∷ asked_start)
         < length (accepted two (At 300001 (TakeFrame (Some (clear_to 300001))) ∷ asked_start))) }
 {}

@@ -8,6 +8,7 @@ ghost use Rattle.j39_frame.specs.Pgn.{pgn_raw};
 ghost use Rattle.j39_frame.specs.Stamp.{stamp_micros};
 ghost use Rattle.j39_address.specs.Claims.{holder_in};
 ghost use Rattle.j39_address.specs.Name.{name_raw};
+ghost use Rattle.j39_sessions.specs.Sessions.{is_same};
 ghost use Rattle.j39_transport.specs.Frames.{agree, goes, pgn_named, size_named};
 ghost use Rattle.j39_transport.specs.Key.{Broadcast, is_key};
 ghost use Rattle.j39_transport.specs.ReceiverModel.{message_shown};
@@ -17,7 +18,6 @@ ghost use Rattle.j39_node.specs.History.{nothing};
 ghost use Rattle.j39_node.specs.Boxes.{broadcast_by, in_box};
 
 use crate::controller::sooner;
-use crate::incoming::is_same;
 use crate::own::{Own, TRANSPORT_CONTROL, TRANSPORT_DATA};
 use arrayvec::ArrayVec;
 use j39_address::{Claims, Name};
@@ -210,6 +210,8 @@ impl Hearing {
     ghost use Rattle.j39_node.specs.Is.{hearing_it, hearing_of, leaving, releasing, senders_of, who_of};
 
     /// Nothing was heard. It takes memory for so many at once.
+    // In its caller it would make that keep copies of all that a controller is made of on the stack.
+    #[inline(never)]
     pub(crate) fn new(alloc: Global, boxes: u8) -> Result<Hearing, AllocError>
         ensures nothing { IfOk result (λ h. hearing_of h ≡ record { listening = record { current = []; waits = [] }; boxes = boxes; missed = 0 }) }
         ensures nobody { IfOk result (λ h. senders_of h ≡ []) }
@@ -588,4 +590,15 @@ fn is_to_all(frame: &Frame, group: u32) -> bool
         && frame.id.pgn().raw() == group
         && frame.id.ps() == GLOBAL_ADDRESS
         && frame.bytes.len() == 8
+}
+
+fn is_same(before: Option<Name>, after: Option<Name>) -> bool
+    ensures { result ≡ is_same (option_map name_raw before) (option_map name_raw after) }
+{
+    match (before, after) {
+        (None, None) => true,
+        (None, Some(_name)) => false,
+        (Some(_name), None) => false,
+        (Some(one), Some(other)) => one.raw() == other.raw(),
+    }
 }

@@ -15,7 +15,7 @@ ghost use Rattle.j39_node.specs.Apart.{AreApartBy, sent_by};
 ghost use Rattle.j39_node.specs.Hearing.{OpenBroadcast, WasBroadcast, account, announced, announces, broadcast_senders, found, found_in, got_broadcasts, grown, hearing, is_late, listening, made_whole, more, of, opened, over_by, packs, unheard, unheard_news, waiting, whole_broadcasts};
 ghost use Rattle.j39_node.specs.Example.{announced_by, two_open, wide};
 ghost use Rattle.j39_node.specs.Is.{AreAnswered, Is};
-ghost use Rattle.j39_node.specs.Reception.{holder, known, listed, time_heard};
+ghost use Rattle.j39_node.specs.Reception.{holder, known, time_heard};
 ghost use Rattle.j39_node.specs.Since.{NeverBack, passed_in};
 ghost use Rattle.j39_node.specs.Ticks.{StaysHeard, TicksWithin};
 

@@ -1,11 +1,10 @@
 //! Laws over histories, each the contract of a function that does nothing. `Is w H c` says that the controller c was made for
 //! w and called as H says since, with the answers that H has; in H the newest call stands first.
 ghost use Rattle.std.specs.Prelude.{◌≡◌, ◌||◌, ◌≢◌, ◌⊎◌, ◌+◌, ◌*◌, ◌-◌, ◌<◌, ◌≤◌, ◌↔◌, ◌++◌, ℕ, Bool, List, [], ◌∷◌, length, drop, map, Some, None, Option, Result, Ok, Err, IsTrue, true, false, take, nat_eq};
-ghost use Rattle.std.specs.List.{slice_get};
+ghost use Rattle.std.specs.List.{All, slice_get};
 ghost use Rattle.j39_frame.specs.Frame.{FrameRecord};
 ghost use Rattle.j39_frame.specs.Identifier.{destination_of, source_of, pgn_of};
 ghost use Rattle.j39_address.specs.Claim.{claim_of};
-ghost use Rattle.j39_transport.specs.Reception.{ReceptionRecord};
 ghost use Rattle.j39_frame.specs.Network.{address_claimed_group, request_group};
 ghost use Rattle.j39_transport.specs.Message.{MessageRecord, packets_of};
 ghost use Rattle.j39_address.specs.declared.status.Status.TheVariants as status;
@@ -21,11 +20,11 @@ ghost use Rattle.j39_node.specs.declared.kinds.Refused.TheVariants as refused;
 ghost use Rattle.j39_node.specs.History.{reached, Act, Who, is_smaller, Asked, Call, Message, Draft, IsFront, accepted, acknowledgment, acknowledgment_group, asked, asked_group, handed, is_served, requests, lost_news, another_news, missed_news, address_after, answers_another, calls, can_send, claim_address, claim_from, content, acknowledged, due, frames, got, heard, holds, is_held, is_lost, is_subscribed, kept, message_of, missed, moment, owes_claim, sent, step, told, all_frames, broadcasts, can_broadcast, first_frames, frame_of, has_packets, is_acknowledgment, is_claim, is_packet, is_transfer, open_broadcast, packets, told_broadcasts, refusal_waits, waits_already, is_alike, message_from, told_claims, delayed, doubled_news, marks, unblanked, is_blank};
 ghost use Rattle.j39_node.specs.History.Call.{At, TakeBroadcastEnded, ReleaseTransfer, TakeNews, TakeRequest, TakeAskEnded, TakeEnded, TakeReceived, TakeTransferEnded, Renew, Withdraw};
 ghost use Rattle.j39_node.specs.History.Act.{Acknowledge, Broadcast, Hear, Tick, TakeFrame, Send, Transfer, Again};
-ghost use Rattle.j39_node.specs.Reception.{is_reply, yields, CameFromOne, delivered, got_transfers, heard_at, holder, is_move, known, listed, reception, session_tick, replied, reply_from, says, time_heard, whole, without};
+ghost use Rattle.j39_node.specs.Reception.{is_reply, yields, CameFromOne, delivered, got_transfers, heard_at, holder, is_move, known, reception, replies, session, session_tick, says, time_heard, whole};
+ghost use Rattle.j39_sessions.specs.Sessions.{AreApart, Session, has_room, replied, reply_to, tick_of, without};
 ghost use Rattle.j39_transport.specs.Cutting.{ToSend};
 ghost use Rattle.j39_transport.specs.Receiving.{said_to};
-ghost use Rattle.j39_transport.specs.Signals.{RequestToSend};
-ghost use Rattle.byteorder.specs.Endian.{little_bytes};
+ghost use Rattle.j39_transport.specs.Signals.{Abort, RequestToSend, written};
 ghost use Rattle.j39_node.specs.Hearing.{hearing_tick, listening, over_by, unheard_news};
 ghost use Rattle.j39_node.specs.Transfers.{age, next_due, next_transfer, told_transfers, transfers};
 ghost use Rattle.j39_node.specs.Moves.{moves};
@@ -209,14 +208,14 @@ pub fn takes_turns()
         → next_other w (between ++ (At second (TakeFrame (Some g)) ∷ later ++ At first (TakeFrame (Some f)) ∷ H)) last ≡ Some m
         → message_of i ≡ m }
     ensures due { (w : Who) (H : List Call) (now : ℕ) → IsTrue (holds w H now)
-        → (reached H < length (accepted w H)) ⊎ (((reception w H).replies ≢ []) ⊎ (next_long w H now ≢ None)) → next_other w H now ≢ None }
+        → (reached H < length (accepted w H)) ⊎ ((replies w H ≢ []) ⊎ (next_long w H now ≢ None)) → next_other w H now ≢ None }
     ensures behind_a_reply { (w : Who) (H later : List Call) (c : Controller) (last first : ℕ) (f i : FrameRecord)
-        → Is w (At last (TakeFrame (Some i)) ∷ later ++ At first (TakeFrame (Some f)) ∷ H) c → IsTrue (is_reply (reception w H).replies f)
+        → Is w (At last (TakeFrame (Some i)) ∷ later ++ At first (TakeFrame (Some f)) ∷ H) c → IsTrue (is_reply (replies w H) f)
         → NoneTold takes_other later
         → (reached (later ++ At first (TakeFrame (Some f)) ∷ H) < length (accepted w (later ++ At first (TakeFrame (Some f)) ∷ H)))
         ⊎ ((next_packet w (later ++ At first (TakeFrame (Some f)) ∷ H) last ≢ None)
         ⊎ IsTrue (is_apart (next_transfer w (later ++ At first (TakeFrame (Some f)) ∷ H) last)
-        (slice_get (reception w (later ++ At first (TakeFrame (Some f)) ∷ H)).replies 0)))
+        (slice_get (replies w (later ++ At first (TakeFrame (Some f)) ∷ H)) 0)))
         → (is_transfer i ≡ false) ⊎ IsTrue (is_move w (later ++ At first (TakeFrame (Some f)) ∷ H) i) }
 {}
 
@@ -383,32 +382,39 @@ pub fn broadcast_done_means()
 
 /// What comes in packets to its address and is made whole by a frame is got by the program, each once, in order, or waits. It was
 /// handed over by one sender: an RTS, then its packets in order, and since the RTS one NAME held its source, and didn't restart,
-/// or none. Where the address is held, nothing waits and no session is open, an RTS begins one, and a CTS (its first byte is 17)
-/// is said to its source.
+/// or none: with that NAME it waits. Where the address is held, the source has no session open and a box is free, an RTS begins one, and
+/// a CTS (its first byte is 17) is said to its source. Of each source one is open at most, and no more are open or wait than there are
+/// boxes.
 pub fn transfers_received()
-    ensures in_order { (w : Who) (H : List Call) → delivered w H ≡ got_transfers w H ++ listed (reception w H).waits }
+    ensures in_order { (w : Who) (H : List Call) → delivered w H ≡ got_transfers w H ++ (reception w H).waits }
     ensures got { (w : Who) (H : List Call) (c : Controller) (answer : Bool) → Is w (ReleaseTransfer answer ∷ H) c
-        → (answer ≡ true ↔ ((x : ℕ × MessageRecord) × ((reception w H).waits ≡ Some x))) }
+        → (answer ≡ true ↔ ((x : ℕ × MessageRecord) × (xs : List (ℕ × MessageRecord)) × ((reception w H).waits ≡ x ∷ xs))) }
     ensures of_one { (w : Who) (H : List Call) (now : ℕ) (f : FrameRecord) (m : MessageRecord) → whole w H now f ≡ Some m
         → CameFromOne w (At now (Hear f) ∷ H) m }
     ensures begins { (w : Who) (H : List Call) (now : ℕ) (f : FrameRecord) (size packets most pgn : ℕ) → IsTrue (holds w H now)
-        → (reception w H).waits ≡ None → (reception w H).session ≡ None
+        → session w H (source_of f.id) ≡ None → IsTrue (has_room (source_of f.id) (reception w H))
         → said_to w.address f ≡ Some (RequestToSend size packets most pgn)
-        → (r : ReceptionRecord) × (x : ToSend) × ((reception w (At now (Hear f) ∷ H)).session ≡ Some r)
-        × (r.message.source ≡ source_of f.id) × (slice_get x.bytes 0 ≡ Some 17)
-        × ((reception w (At now (Hear f) ∷ H)).replies ≡ replied w.address (source_of f.id) (Some x) (reception w H).replies) }
+        → (x : Session) × (y : ToSend) × (session w (At now (Hear f) ∷ H) (source_of f.id) ≡ Some x)
+        × (says w H now f ≡ Some y) × (slice_get y.bytes 0 ≡ Some 17)
+        × ((reception w (At now (Hear f) ∷ H)).replies ≡ replied (source_of f.id) (Some y) (reception w H).replies) }
+    ensures sender { (w : Who) (H : List Call) (now : ℕ) (f : FrameRecord) (m : MessageRecord) → whole w H now f ≡ Some m
+        → (reception w (At now (Hear f) ∷ H)).senders ≡ (reception w H).senders ++ holder w (At now (Hear f) ∷ H) m.source ∷ [] }
+    ensures paired { (w : Who) (H : List Call) → length (reception w H).senders ≡ length (reception w H).waits }
+    ensures boxes { (w : Who) (H : List Call) → AreApart (reception w H).sessions × (length (reception w H).sessions + length (reception w H).waits ≤ w.sessions) }
 {}
 
 /// What the receiver says to a frame waits in place of what it said to that address before. It says an end-of-message acknowledgment
 /// (J1939-21, 5.10.3.3: its first byte is 19) of what this frame makes whole, and of nothing else: so what is acknowledged waits for the
-/// program, or was got.
+/// program, or was got. Where a window is set, no CTS that answers a frame grants more packets (its second byte).
 pub fn acknowledged_is_there()
     ensures says { (w : Who) (H : List Call) (now : ℕ) (f : FrameRecord) → IsTrue (holds w H now) → claim_of f ≡ None
-        → (reception w (At now (Hear f) ∷ H)).replies ≡ replied w.address (source_of f.id) (says w H now f) (reception w H).replies }
+        → (reception w (At now (Hear f) ∷ H)).replies ≡ replied (source_of f.id) (says w H now f) (reception w H).replies }
     ensures whole { (w : Who) (H : List Call) (now : ℕ) (f : FrameRecord) (m : MessageRecord) → whole w H now f ≡ Some m
         → (x : ToSend) × (says w H now f ≡ Some x) × (slice_get x.bytes 0 ≡ Some 19) }
     ensures only { (w : Who) (H : List Call) (now : ℕ) (f : FrameRecord) (x : ToSend) → says w H now f ≡ Some x
         → slice_get x.bytes 0 ≡ Some 19 → (m : MessageRecord) × (whole w H now f ≡ Some m) }
+    ensures window { (w : Who) (H : List Call) (now n : ℕ) (f : FrameRecord) (y : ToSend) → 1 ≤ w.window → says w H now f ≡ Some y
+        → slice_get y.bytes 0 ≡ Some 17 → slice_get y.bytes 1 ≡ Some n → n ≤ w.window }
 {}
 
 /// A frame taken that belongs to a session, goes to an address and is none of the open transfer is the first reply that waits: it
@@ -418,10 +424,10 @@ pub fn acknowledged_is_there()
 pub fn replies_mean()
     ensures first { (w : Who) (H : List Call) (c : Controller) (now : ℕ) (f : FrameRecord)
         → Is w (At now (TakeFrame (Some f)) ∷ H) c → IsTrue (is_transfer f) → is_move w H f ≡ false
-        → IsTrue (holds w H now) × (source_of f.id ≡ w.address) × (slice_get (reception w H).replies 0 ≡ Some (message_of f))
+        → IsTrue (holds w H now) × (source_of f.id ≡ w.address) × (slice_get (replies w H) 0 ≡ Some (message_of f))
         × (next_acknowledgment w H now ≡ None) }
     ensures before { (w : Who) (H : List Call) (c : Controller) (now : ℕ) (f : FrameRecord) (m : Message)
-        → Is w (At now (TakeFrame (Some f)) ∷ H) c → slice_get (reception w H).replies 0 ≡ Some m
+        → Is w (At now (TakeFrame (Some f)) ∷ H) c → slice_get (replies w H) 0 ≡ Some m
         → is_claim f ≡ false → is_acknowledgment f ≡ false → is_overdue w H now ≡ false → yields w H ≡ false → message_of f ≡ m }
     ensures once { (w : Who) (H : List Call) (now : ℕ) (f : FrameRecord) → is_claim f ≡ false → IsTrue (is_transfer f) → is_move w H f ≡ false
         → (reception w (At now (TakeFrame (Some f)) ∷ H)).replies ≡ drop 1 (reception w H).replies }
@@ -431,22 +437,20 @@ pub fn replies_mean()
     ensures none_waits { (w : Who) (H : List Call) (c : Controller) (now : ℕ) → Is w (At now (TakeFrame None) ∷ H) c
         → IsTrue (holds w H now) → (reception w H).replies ≡ [] }
     ensures lost { (w : Who) (H : List Call) → IsTrue (is_lost (address_after w H))
-        → ((reception w H).session ≡ None) × ((reception w H).replies ≡ []) }
+        → ((reception w H).sessions ≡ []) × ((reception w H).replies ≡ []) }
 {}
 
-/// A frame that doesn't go to its address changes nothing of what is received, and one of another source nothing of the session,
-/// unless by it the address is lost or the session's source gets another holder or restarts; nor of the message that waits. What
+/// A frame that doesn't go to its address changes nothing of what is received, and one of another source nothing of a session,
+/// unless by it the address is lost or the session's source gets another holder or restarts; nor of the messages that wait. What
 /// is said to others than its source stays, unless it is a claim.
 pub fn strangers()
     ensures to_others { (w : Who) (H : List Call) (now : ℕ) (f : FrameRecord) → is_smaller w (claim_of f) ≡ false
-        → ((r : ReceptionRecord) → (reception w H).session ≡ Some r
-        → holder w (At now (Hear f) ∷ H) r.message.source ≡ known w H now f r.message.source)
+        → ((a : ℕ) (x : Session) → session w H a ≡ Some x → holder w (At now (Hear f) ∷ H) a ≡ known w H now f a)
         → destination_of f.id ≢ Some w.address → reception w (At now (Hear f) ∷ H) ≡ reception w H }
-    ensures from_others { (w : Who) (H : List Call) (now : ℕ) (f : FrameRecord) (r : ReceptionRecord)
-        → is_lost (address_after w (At now (Hear f) ∷ H)) ≡ false → holder w (At now (Hear f) ∷ H) r.message.source ≡ known w H now f r.message.source
-        → (reception w H).session ≡ Some r → source_of f.id ≢ r.message.source → (reception w (At now (Hear f) ∷ H)).session ≡ Some r }
-    ensures waits { (w : Who) (H : List Call) (now : ℕ) (f : FrameRecord)
-        → ((r : ReceptionRecord) → (reception w H).session ≡ Some r → source_of f.id ≢ r.message.source)
+    ensures from_others { (w : Who) (H : List Call) (now a : ℕ) (f : FrameRecord) (x : Session)
+        → is_lost (address_after w (At now (Hear f) ∷ H)) ≡ false → holder w (At now (Hear f) ∷ H) a ≡ known w H now f a
+        → session w H a ≡ Some x → source_of f.id ≢ a → session w (At now (Hear f) ∷ H) a ≡ Some x }
+    ensures waits { (w : Who) (H : List Call) (now : ℕ) (f : FrameRecord) → session w H (source_of f.id) ≡ None
         → (reception w (At now (Hear f) ∷ H)).waits ≡ (reception w H).waits }
     ensures replies { (w : Who) (H : List Call) (now : ℕ) (f : FrameRecord) → claim_of f ≡ None
         → without (source_of f.id) (reception w (At now (Hear f) ∷ H)).replies ≡ without (source_of f.id) (reception w H).replies }
@@ -477,31 +481,29 @@ pub fn strangers_unheard()
         → (AreAnswered w (later ++ At now (Hear f) ∷ H) ↔ AreAnswered w (later ++ At now Tick ∷ H)) }
 {}
 
-/// While a message waits for the program, an RTS to its address is answered by abort 2, and none begins.
+/// Where all boxes are in use by others' sessions, or by messages that wait for the program, an RTS to its address is answered by
+/// abort 2, and none begins.
 pub fn full_refuses()
-    ensures { (w : Who) (H : List Call) (now : ℕ) (f : FrameRecord) (x : ℕ × MessageRecord) (size packets most pgn : ℕ)
-        → (reception w H).waits ≡ Some x → IsTrue (holds w H now)
-        → said_to w.address f ≡ Some (RequestToSend size packets most pgn)
-        → length (without (source_of f.id) (reception w H).replies) < 16
-        → reception w (At now (Hear f) ∷ H) ≡ record {
-          session = None;
-          since = (reception w H).since;
-          waits = Some x;
-          replies = without (source_of f.id) (reception w H).replies
-              ++ reply_from w.address (source_of f.id) (255 ∷ 2 ∷ 255 ∷ 255 ∷ 255 ∷ little_bytes 3 pgn) ∷ [];
+    ensures { (w : Who) (H : List Call) (now : ℕ) (f : FrameRecord) (size packets most pgn : ℕ) → IsTrue (holds w H now)
+        → said_to w.address f ≡ Some (RequestToSend size packets most pgn) → has_room (source_of f.id) (reception w H) ≡ false
+        → reception w (At now (Hear f) ∷ H) ≡ record (reception w H) {
+          replies = replied (source_of f.id) (Some (written w.address (source_of f.id) (Abort 2 pgn))) (reception w H).replies;
         } }
 {}
 
-/// `next_tick` tells the soonest of three moments. Before the session's a tick says nothing and ends no session; from then on one says a
-/// CTS or an abort (its first byte is 17 or 255) to the session's source. Before the broadcasts' a tick leaves what is heard; from then on
+/// `next_tick` tells the soonest of three moments. Before the sessions' a tick says nothing and ends none; from then on one says a
+/// CTS or an abort (its first byte is 17 or 255) to a session's source, which waits unless sixteen others' do. Before the broadcasts' a tick leaves what is heard; from then on
 /// one ends one. Before all three it ends no request; from the request's on this is told as timed out.
 pub fn ticks_wait()
     ensures waits { (w : Who) (H : List Call) (now : ℕ) → heard_at H ≤ now → now < 10000000000000000
         → ((t : ℕ) → session_tick w H ≡ Some t → now < t) → reception w (At now Tick ∷ H) ≡ reception w H }
-    ensures says { (w : Who) (H : List Call) (now t : ℕ) (r : ReceptionRecord) → session_tick w H ≡ Some t
-        → (reception w H).session ≡ Some r → t ≤ now → time_heard H + (t - heard_at H) < 10000000000000000
-        → (x : ToSend) × ((slice_get x.bytes 0 ≡ Some 17) ⊎ (slice_get x.bytes 0 ≡ Some 255))
-        × ((reception w (At now Tick ∷ H)).replies ≡ replied w.address r.message.source (Some x) (reception w H).replies) }
+    ensures says { (w : Who) (H : List Call) (now t : ℕ) → session_tick w H ≡ Some t → t ≤ now
+        → time_heard H + (t - heard_at H) < 10000000000000000 → (a : ℕ) × (x : Session) × (y : ToSend) × (session w H a ≡ Some x)
+        × ((slice_get y.bytes 0 ≡ Some 17) ⊎ (slice_get y.bytes 0 ≡ Some 255)) × ((tick_of w.address (time_heard (At now Tick ∷ H)) x).sends ≡ Some y) }
+    ensures told { (w : Who) (H : List Call) (now a : ℕ) (x : Session) (y : ToSend) → session w H a ≡ Some x
+        → (tick_of w.address (time_heard (At now Tick ∷ H)) x).sends ≡ Some y
+        → length (reception w H).replies + length (reception w H).sessions ≤ 16
+        → reply_to a (reception w (At now Tick ∷ H)).replies ≡ Some (record { to = a; bytes = y.bytes }) }
     ensures keeps { (w : Who) (H : List Call) (now : ℕ) → heard_at H ≤ now → now < 10000000000000000
         → ((t : ℕ) → hearing_tick w H ≡ Some t → now < t) → listening w (At now Tick ∷ H) ≡ listening w H }
     ensures ends { (w : Who) (H : List Call) (now t : ℕ) → hearing_tick w H ≡ Some t → t ≤ now

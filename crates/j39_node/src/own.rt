@@ -46,6 +46,9 @@ pub(crate) struct Own {
     pub(crate) subscribed: Option<ArrayVec<u32, 64>>,
     /// How many broadcasts in packets are heard at once.
     pub(crate) boxes: u8,
+    /// How many messages in packets to its address, and how many packets it grants at once at most; 0 sets no limit.
+    pub(crate) sessions: u8,
+    pub(crate) window: u8,
     pub ghost fits: { IsAddress address },
 }
 
@@ -69,6 +72,8 @@ impl Own {
             served: numbers(setup.served)?,
             subscribed: subscriptions(setup.subscribed)?,
             boxes: setup.broadcasts,
+            sessions: setup.sessions,
+            window: setup.window,
         })
     }
 

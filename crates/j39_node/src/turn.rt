@@ -2,7 +2,8 @@
 ghost use Rattle.std.specs.Prelude.{◌≡◌, Some};
 ghost use Rattle.j39_node.specs.History.{message_of};
 ghost use Rattle.j39_node.specs.Is.{turn_of};
-ghost use Rattle.j39_node.specs.Reception.{is_same, is_that};
+ghost use Rattle.j39_node.specs.Reception.{is_that};
+ghost use Rattle.j39_sessions.specs.Sessions.{is_same};
 
 use j39_frame::Frame;
 

@@ -21,17 +21,17 @@ aside s now name f e = ap (λ (b : Bool). if b then stepped (source_of f.id) now
 -- ---- a packet of an open session
 
 -- with the next packet
-abbrev next_of : ℕ → List ℕ → ReceptionRecord → ReceptionRecord
+abbrev pub next_of : ℕ → List ℕ → ReceptionRecord → ReceptionRecord
 next_of now part r = record r { message = grown now part r.message; fresh = false }
 
-next_step : (own most : ℕ) (room : Bool) (f : FrameRecord) (now : ℕ) (x : Session) (part : List ℕ) → source_of f.id ≡ x.reception.message.source
+pub next_step : (own most : ℕ) (room : Bool) (f : FrameRecord) (now : ℕ) (x : Session) (part : List ℕ) → source_of f.id ≡ x.reception.message.source
     → said_to own f ≡ Some (Packet (suc x.reception.message.count) part)
     → step_at own most room f now (Some x) ≡ result_of own (source_of f.id) (goes_on now (next_of now part x.reception))
 unfolding recv_step takes_signal takes_data takes_packet frames.source_of
 next_step own most room f now x part from says = let m = said_narrowed own most f in grind (arith, from, says, m)
 
 -- not the last one
-goes_next : (now : ℕ) (r : ReceptionRecord) → r.message.last ≡ now → (r.message.count ≡ r.message.packets → ⊥)
+pub goes_next : (now : ℕ) (r : ReceptionRecord) → r.message.last ≡ now → (r.message.count ≡ r.message.packets → ⊥)
     → (y : ReceptionRecord) × ((goes_on now r).session ≡ Some y) × (y.message ≡ r.message)
 unfolding goes_on grants granted_at
 goes_next now r l n =
@@ -41,11 +41,11 @@ goes_next now r l n =
     (λ u. (_, refl, λ i. record r.message { last = sym l i })) (λ u. (r, refl, refl)))
 
 -- the last one
-last_step : (own most : ℕ) (room : Bool) (f : FrameRecord) (now : ℕ) (x : Session) (part : List ℕ) → source_of f.id ≡ x.reception.message.source
+pub last_step : (own most : ℕ) (room : Bool) (f : FrameRecord) (now : ℕ) (x : Session) (part : List ℕ) → source_of f.id ≡ x.reception.message.source
     → said_to own f ≡ Some (Packet (suc x.reception.message.count) part) → suc x.reception.message.count ≡ x.reception.message.packets
-    → (step_at own most room f now (Some x)).delivers ≡ Some (message_of (grown now part x.reception.message))
+    → ((step_at own most room f now (Some x)).delivers ≡ Some (message_of (grown now part x.reception.message))) × ((step_at own most room f now (Some x)).after.session ≡ None)
 unfolding goes_on delivers_message
-last_step own most room f now x part from says n = let s = next_step own most room f now x part from says in grind (arith, s, n)
+last_step own most room f now x part from says n = let s = next_step own most room f now x part from says in (grind (arith, s, n), grind (arith, s, n))
 
 -- what isn't the sender's
 spared_step : (own most : ℕ) (room : Bool) (f : FrameRecord) (now : ℕ) (x : Session) → is_of_sender (said_to own f) ≡ false → (step_at own most room f now (Some x)).after.session ≡ Some x.reception
@@ -192,7 +192,7 @@ module _ (own most boxes : ℕ) where
         let most_e = (own_is own most boxes E).2 in
         ap (λ (b : Bool). if b then (step_in now f (after own most boxes E)).delivers else None) (ap (λ (m : ℕ). is_of_session m f) own_e ∙ session_said own f _ p.says)
         ∙ ((λ i. (step_at (own_e i) (most_e i) (has_room (source_of f.id) (after own most boxes E)) f now ((ap (λ (m : ℕ). of m (after own most boxes E).sessions) p.source ∙ h.is) i)).delivers)
-        ∙ (last_step own most (has_room (source_of f.id) (after own most boxes E)) f now x part (p.source ∙ sym (its h)) says (omega (arith, count, packets, e))
+        ∙ ((last_step own most (has_room (source_of f.id) (after own most boxes E)) f now x part (p.source ∙ sym (its h)) says (omega (arith, count, packets, e))).0
         ∙ ap Some (ap (λ (y : SessionRecord). message_of (grown now part y)) h.message ∙ sym is)))
 
 pub received : (own most boxes : ℕ) (E later : List Event) (start size n asked pgn last now : ℕ) (name : Option ℕ) (rts f : FrameRecord) (joined part : List ℕ) (m : MessageRecord)

@@ -21,7 +21,7 @@ its_packets : (own : ℕ) (F : List FrameRecord) (a : ℕ) (xs : List Session) �
 its_packets own F a [] h = tt
 its_packets own F a (x ∷ xs) h = cond_both (nat_eq a (from x)) (Some x) (of a xs) (λ (o : Option Session). AreReceived own F (receiving o)) (λ e. All-head (Among own F) x xs h) (λ e. its_packets own F a xs (All-tail (Among own F) x xs h))
 
-all_others : (P : Session → Type 0) (a : ℕ) (xs : List Session) → All P xs → All P (others a xs)
+pub all_others : (P : Session → Type 0) (a : ℕ) (xs : List Session) → All P xs → All P (others a xs)
 all_others P a [] h = h
 all_others P a (x ∷ xs) h = cond_both (nat_eq a (from x)) xs (x ∷ others a xs) (All P) (λ e. All-tail P x xs h) (λ e. All-cons P x (others a xs) (All-head P x xs h) (all_others P a xs (All-tail P x xs h)))
 
@@ -31,9 +31,9 @@ all_listed own F since name (Some r) h = All-cons (Among own F) (session_by sinc
 
 -- ---- a step
 
-record Handed (own : ℕ) (F : List FrameRecord) (x : RecvResult) : Type 0 where
-  session : AreReceived own F x.after.session
-  delivers : WereHanded own F x.delivers
+pub record Handed (own : ℕ) (F : List FrameRecord) (x : RecvResult) : Type 0 where
+  pub session : AreReceived own F x.after.session
+  pub delivers : WereHanded own F x.delivers
 
 handed_frame : (own : ℕ) (F : List FrameRecord) (o : Option ReceptionRecord) (f : FrameRecord) (now : ℕ) (found : Bool) → AreReceived own F o
     → Handed own (F ++ f ∷ []) (recv_step (record { own = own; session = o }) (Heard f) now found)
@@ -76,7 +76,7 @@ unfolding takes_signal takes_request grants granted_at begun
 same_message own source most now found s o = (grind arith, grind arith)
 
 -- what is shown of it is the frame, or one that takes no more at once, or says nothing
-handed_step : (own most : ℕ) (F : List FrameRecord) (room : Bool) (f : FrameRecord) (now : ℕ) (o : Option Session) → AreReceived own F (receiving o)
+pub handed_step : (own most : ℕ) (F : List FrameRecord) (room : Bool) (f : FrameRecord) (now : ℕ) (o : Option Session) → AreReceived own F (receiving o)
     → Handed own (F ++ f ∷ []) (step_at own most room f now o)
 unfolding recv_step frames.source_of
 handed_step own most F room f now o h =
@@ -91,7 +91,7 @@ handed_step own most F room f now o h =
     r : ReceiverRecord
     r = record { own = own; session = receiving o }
 
-handed_tick : (own : ℕ) (F : List FrameRecord) (now : ℕ) (x : Session) → Among own F x → AreReceived own F (tick_of own now x).after.session
+pub handed_tick : (own : ℕ) (F : List FrameRecord) (now : ℕ) (x : Session) → Among own F x → AreReceived own F (tick_of own now x).after.session
 unfolding recv_step
 handed_tick own F now x h =
     cond_both (is_over now x) _ _ (λ (y : RecvResult). AreReceived own F y.after.session) (λ e. tt)
@@ -165,7 +165,7 @@ refuses own most boxes now size packets asked pgn name f E is e g l =
 
 -- ---- how many packets are granted at once
 
-abbrev Few : ℕ → Option ReceptionRecord → Type 0
+abbrev pub Few : ℕ → Option ReceptionRecord → Type 0
 Few most None = Unit {0}
 Few most (Some r) = r.most ≤ most
 
@@ -188,10 +188,10 @@ few_step own most room f now o l h =
     r : ReceiverRecord
     r = record { own = own; session = receiving o }
 
-abbrev Fewer : ℕ → Session → Type 0
+abbrev pub Fewer : ℕ → Session → Type 0
 Fewer most x = x.reception.most ≤ most
 
-few_of : (most a : ℕ) (xs : List Session) → All (Fewer most) xs → Few most (receiving (of a xs))
+pub few_of : (most a : ℕ) (xs : List Session) → All (Fewer most) xs → Few most (receiving (of a xs))
 few_of most a [] h = tt
 few_of most a (x ∷ xs) h = cond_both (nat_eq a (from x)) (Some x) (of a xs) (λ (o : Option Session). Few most (receiving o)) (λ e. All-head (Fewer most) x xs h) (λ e. few_of most a xs (All-tail (Fewer most) x xs h))
 

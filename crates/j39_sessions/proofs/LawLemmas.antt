@@ -5,7 +5,7 @@ use Rattle.j39_sessions.proofs.StepLemmas.{refuses_step}
 
 -- ---- lists of sessions
 
-none_filtered : (p : Session → Bool) (a : ℕ) (xs : List Session) → of a xs ≡ None → of a (filter p xs) ≡ None
+pub none_filtered : (p : Session → Bool) (a : ℕ) (xs : List Session) → of a xs ≡ None → of a (filter p xs) ≡ None
 none_filtered p a [] e = refl
 none_filtered p a (x ∷ xs) e = let h = none_filtered p a xs in grind (arith, h, e)
 
@@ -54,7 +54,7 @@ source_at a [] y e = absurd (cc)
 source_at a (x ∷ xs) y e = let h = source_at a xs y in grind (arith, e, h)
 
 -- one that is added has this source, or there is none
-abbrev IsFrom : ℕ → Option Session → Type 0
+abbrev pub IsFrom : ℕ → Option Session → Type 0
 IsFrom a None = Unit {0}
 IsFrom a (Some y) = from y ≡ a
 
@@ -73,7 +73,7 @@ apart_listed a xs (Some y) h e i = apart_more xs y h (ap (λ (n : ℕ). of n xs)
 -- ---- a step at a frame
 
 -- the source of a session
-abbrev Fits : (ℕ → Type 0) → Option ReceptionRecord → Type 0
+abbrev pub Fits : (ℕ → Type 0) → Option ReceptionRecord → Type 0
 Fits P None = Unit {0}
 Fits P (Some r) = P r.message.source
 
@@ -82,7 +82,7 @@ fits_signal : (P : ℕ → Type 0) (source own : ℕ) (s : Option Signal) (now :
 unfolding takes_signal takes_data takes_abort takes_request takes_packet begun goes_on delivers_message asks_again grants granted_at
 fits_signal P source own s now found o l h = grind (arith, l, h)
 
-own_fits : (a : ℕ) (o : Option Session) → IsFrom a o → Fits (λ b. b ≡ a) (receiving o)
+pub own_fits : (a : ℕ) (o : Option Session) → IsFrom a o → Fits (λ b. b ≡ a) (receiving o)
 own_fits a o h = grind (arith, h)
 
 -- a session behind a frame of a source is of that source
@@ -97,7 +97,7 @@ step_from own most room f now o since name h =
     made_from None k = tt
     made_from (Some r) k = k
 
-of_from : (a : ℕ) (xs : List Session) → IsFrom a (of a xs)
+pub of_from : (a : ℕ) (xs : List Session) → IsFrom a (of a xs)
 of_from a xs = go (of a xs) refl
   where
     go : (o : Option Session) → of a xs ≡ o → IsFrom a o
@@ -108,10 +108,10 @@ module _ (s : SessionsRecord) (now : ℕ) (name : Option ℕ) (f : FrameRecord) 
   abbrev a : ℕ
   a = source_of f.id
 
-  abbrev new : Option Session
+  abbrev pub new : Option Session
   new = option_map (session_by (since_by now (of a s.sessions)) (name_by name (of a s.sessions))) (step_in now f s).after.session
 
-  new_from : IsFrom a new
+  pub new_from : IsFrom a new
   new_from = step_from s.own s.most (has_room a s) f now (of a s.sessions) (since_by now (of a s.sessions)) (name_by name (of a s.sessions)) (of_from a s.sessions)
 
   pub apart_heard : AreApart s.sessions → AreApart (hears now name f s).sessions
@@ -153,7 +153,7 @@ ticked_fits : (P : ℕ → Type 0) (now : ℕ) (o : Option ReceptionRecord) → 
 unfolding takes_tick asks_again grants granted_at
 ticked_fits P now o h = grind (arith, h)
 
-ticked_from : (own now : ℕ) (x : Session) → IsFrom (from x) (session_ticked own now x)
+pub ticked_from : (own now : ℕ) (x : Session) → IsFrom (from x) (session_ticked own now x)
 unfolding recv_step
 ticked_from own now x = cond_both (is_over now x) _ _ (λ (r : RecvResult). IsFrom (from x) (option_map (session_by x.since x.name) r.after.session)) (λ e. tt)
     (λ e. made_from (takes_tick now (Some x.reception)).session (ticked_fits (λ b. b ≡ from x) now (Some x.reception) refl))
@@ -355,19 +355,29 @@ kept_heard own most boxes now name f E y e g =
 
 -- ---- which messages
 
+-- what waits behind a frame
+pub waits_made : (s : SessionsRecord) (now : ℕ) (name : Option ℕ) (f : FrameRecord) → (hears now name f s).waits ≡ s.waits ++ listed (option_map (λ m. (f.stamp, m)) (made now f s))
+waits_made s now name f = go (is_of_session s.own f)
+  where
+    go : (b : Bool) → (if b then stepped (source_of f.id) now name f (of (source_of f.id) s.sessions) (step_in now f s) s else s).waits
+        ≡ s.waits ++ listed (option_map (λ m. (f.stamp, m)) (if b then (step_in now f s).delivers else None))
+    go true = refl
+    go false = sym (append-nil s.waits)
+
+pub senders_made : (s : SessionsRecord) (now : ℕ) (name : Option ℕ) (f : FrameRecord)
+    → (hears now name f s).senders ≡ s.senders ++ listed (option_map (λ m. name_by name (of (source_of f.id) s.sessions)) (made now f s))
+senders_made s now name f = go (is_of_session s.own f)
+  where
+    go : (b : Bool) → (if b then stepped (source_of f.id) now name f (of (source_of f.id) s.sessions) (step_in now f s) s else s).senders
+        ≡ s.senders ++ listed (option_map (λ m. name_by name (of (source_of f.id) s.sessions)) (if b then (step_in now f s).delivers else None))
+    go true = refl
+    go false = sym (append-nil s.senders)
+
 pub in_order : (own most boxes : ℕ) (E : List Event) → delivered own most boxes E ≡ released own most boxes E ++ (after own most boxes E).waits
 in_order own most boxes [] = refl
 in_order own most boxes (Hears now name f ∷ E) =
     ap (λ xs. xs ++ listed (option_map (λ m. (f.stamp, m)) (made now f (after own most boxes E)))) (in_order own most boxes E)
     ∙ (append_assoc (released own most boxes E) (after own most boxes E).waits _ ∙ ap (λ xs. released own most boxes E ++ xs) (sym (waits_made (after own most boxes E) now name f)))
-  where
-    waits_made : (s : SessionsRecord) (now : ℕ) (name : Option ℕ) (f : FrameRecord) → (hears now name f s).waits ≡ s.waits ++ listed (option_map (λ m. (f.stamp, m)) (made now f s))
-    waits_made s now name f = go (is_of_session s.own f)
-      where
-        go : (b : Bool) → (if b then stepped (source_of f.id) now name f (of (source_of f.id) s.sessions) (step_in now f s) s else s).waits
-            ≡ s.waits ++ listed (option_map (λ m. (f.stamp, m)) (if b then (step_in now f s).delivers else None))
-        go true = refl
-        go false = sym (append-nil s.waits)
 in_order own most boxes (Releases ∷ E) =
     in_order own most boxes E ∙ (ap (λ xs. released own most boxes E ++ xs) (sym (first_rest (after own most boxes E).waits)) ∙ sym (append_assoc (released own most boxes E) (take 1 (after own most boxes E).waits) (drop 1 (after own most boxes E).waits)))
   where

@@ -8,6 +8,8 @@ pub mod BoxLemmas
 pub mod StepLemmas
 -- what all that they went through leaves
 pub mod LawLemmas
+-- of one source
+pub mod SourceLemmas
 -- and which messages are put together
 pub mod HandedLemmas
 -- and what is sent whole is received

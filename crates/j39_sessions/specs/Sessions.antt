@@ -2,7 +2,8 @@
 use Rattle.std.specs.Prelude.{if◌then◌else◌, ◌&&◌, ◌*◌, ◌++◌, ◌+◌, ◌==◌, ◌||◌, ◌∷◌, ◌≡◌}
 use Rattle.j39_sessions.specs.Common.{[], Abort, answers, Bool, drop, false, filter, find, FrameRecord, Heard, is_there, length, limit_of, List, list_any, MessageRecord, min, nat_eq, nat_lt, None, not, null_address, Option, option_map, Packet, pgn_of, ps_of, ReceptionRecord, recv_step, RecvResult, request_to_send, result_of, said_to, Signal, slice_index, slice_set, Some, source_of, Tick, timeout, timer_t2, ToSend, transport_control_group, transport_data_group, true, ℕ}
 
--- what its receiver knows of it (J1939-21, 5.10.3), the time since which its source has one open, and the NAME that held its source then
+-- what its receiver knows of it (J1939-21, 5.10.3), the time since which its source has one open, in microseconds, and the NAME that
+-- held its source then
 pub record Session : Type 0 where
   pub reception : ReceptionRecord
   pub since : ℕ
@@ -16,8 +17,9 @@ pub record Reply : Type 0 where
   pub to : ℕ
   pub bytes : List ℕ
 
--- those of an address, which grants so many packets at once at most: the open sessions, of each source one; the whole messages that wait for the program, the oldest first, each with
--- the moment of its last packet, and the NAMEs that held their sources; and what waits to be said
+-- those of an address, which grants so many packets at once at most: the open sessions, of each source one; the whole messages that
+-- wait for the program, the oldest first, each with the moment of its last packet, and the NAMEs that held their sources; and what
+-- waits to be said
 pub record SessionsRecord : Type 0 where
   pub own : ℕ
   pub most : ℕ
@@ -92,9 +94,9 @@ strays (Some k) (Some r) = not (k == r.message.count + 1 || k == r.granted)
 abbrev pub is_request : FrameRecord → Bool
 is_request f = nat_eq (pgn_of f.id) transport_control_group && nat_eq (slice_index f.bytes 0) request_to_send
 
--- how many packets it takes at once, of those that may be granted; 0 sets no limit
+-- how many packets it takes at once, of those that may be granted; 0 sets no limit in either
 abbrev pub fewest : ℕ → ℕ → ℕ
-fewest most asked = if nat_eq asked 0 then most else min asked most
+fewest most asked = if nat_eq most 0 then asked else if nat_eq asked 0 then most else min asked most
 
 -- the bytes of a frame: an RTS as one whose sender takes no more at once
 abbrev pub narrowed : ℕ → FrameRecord → List ℕ
@@ -152,6 +154,10 @@ hears now name f s =
 -- the message that it makes whole
 abbrev pub made : ℕ → FrameRecord → SessionsRecord → Option MessageRecord
 made now f s = if is_of_session s.own f then (step_in now f s).delivers else None
+
+-- and what is said to it
+abbrev pub said : ℕ → FrameRecord → SessionsRecord → Option ToSend
+said now f s = if is_of_session s.own f then (step_in now f s).sends else None
 
 -- ---- time
 

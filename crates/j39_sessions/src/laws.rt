@@ -1,9 +1,10 @@
 //! What sessions promise over all that they went through.
 ghost use Rattle.std.specs.Prelude.{◌≡◌, ◌≢◌, ◌⊎◌, ◌+◌, ◌++◌, ◌<◌, ◌≤◌, ◌∷◌, [], ℕ, List, Option, Some, None, IsTrue, length, suc, take, false, true, nat_lt};
-ghost use Rattle.std.specs.List.{All};
+ghost use Rattle.std.specs.List.{All, slice_get};
 ghost use Rattle.std.specs.Option.{option_map};
 ghost use Rattle.j39_frame.specs.Frame.{FrameRecord};
 ghost use Rattle.j39_frame.specs.Identifier.{source_of};
+ghost use Rattle.j39_transport.specs.Cutting.{ToSend};
 ghost use Rattle.j39_transport.specs.Message.{MessageRecord};
 ghost use Rattle.j39_transport.specs.ReceiverStands.{WasHanded};
 ghost use Rattle.j39_transport.specs.Receiving.{said_to};
@@ -11,7 +12,7 @@ ghost use Rattle.j39_transport.specs.Signals.{Abort, RequestToSend, written};
 ghost use Rattle.j39_sessions.specs.Example.{between, last_packet, requested};
 ghost use Rattle.j39_sessions.specs.Packets.{Bring, IsPacket};
 ghost use Rattle.j39_sessions.specs.Events.{Event, Hears, Ticks, after, delivered, heard, released, ticked_of};
-ghost use Rattle.j39_sessions.specs.Sessions.{AreApart, Session, SessionsRecord, from, has_room, hears, is_of_session, longest, made, name_by, of, receiving, replied, reply_to, session_by, session_ticked, since_by, step_at, ticks};
+ghost use Rattle.j39_sessions.specs.Sessions.{AreApart, Session, SessionsRecord, earliest, from, has_room, hears, is_of_session, limit_in, longest, made, name_by, of, receiving, replied, reply_to, said, session_by, session_ticked, since_by, step_at, tick_of, ticks};
 
 /// Of each source at most one is open, and of the boxes no more are in use than there are.
 #[tactic(auto, using(crate::proofs::LawLemmas::each_apart, crate::proofs::LawLemmas::all_fit))]
@@ -47,10 +48,32 @@ pub fn ticks_alone()
         → now ≤ x.since + longest x.reception.message.packets }
 {}
 
-/// The messages that were whole are released in their order, each once, or wait.
-#[tactic(auto, using(crate::proofs::LawLemmas::in_order))]
+/// Till the soonest limit a tick leaves all as it is. Behind its own limit a session says a CTS or an abort (its first byte is 17 or 255),
+/// which waits to be said unless sixteen others do.
+pub fn ticks_wait()
+    ensures waits { (own most boxes now : ℕ) (E : List Event) → ((m : ℕ) → earliest (after own most boxes E).sessions ≡ Some m → now ≤ m)
+        → after own most boxes (Ticks now ∷ E) ≡ after own most boxes E }
+    ensures says { (own now : ℕ) (x : Session) → limit_in x < now
+        → (y : ToSend) × ((slice_get y.bytes 0 ≡ Some 17) ⊎ (slice_get y.bytes 0 ≡ Some 255)) × ((tick_of own now x).sends ≡ Some y) }
+    ensures told { (own most boxes now a : ℕ) (E : List Event) (x : Session) (y : ToSend) → of a (after own most boxes E).sessions ≡ Some x
+        → (tick_of own now x).sends ≡ Some y → length (after own most boxes E).replies + length (after own most boxes E).sessions ≤ 16
+        → reply_to a (after own most boxes (Ticks now ∷ E)).replies ≡ Some (record { to = a; bytes = y.bytes }) }
+{}
+
+/// An end-of-message acknowledgment (J1939-21, 5.10.3.3: its first byte is 19) is said of what a frame makes whole, and of nothing else: so
+/// what is acknowledged waits, or was released.
+pub fn acknowledged_is_there()
+    ensures whole { (own most boxes now : ℕ) (f : FrameRecord) (E : List Event) (m : MessageRecord) → made now f (after own most boxes E) ≡ Some m
+        → (x : ToSend) × (said now f (after own most boxes E) ≡ Some x) × (slice_get x.bytes 0 ≡ Some 19) }
+    ensures only { (own most boxes now : ℕ) (f : FrameRecord) (E : List Event) (x : ToSend) → said now f (after own most boxes E) ≡ Some x
+        → slice_get x.bytes 0 ≡ Some 19 → (m : MessageRecord) × (made now f (after own most boxes E) ≡ Some m) }
+{}
+
+/// The messages that were whole are released in their order, each once, or wait, each with the NAME that held its source.
+#[tactic(auto, using(crate::proofs::LawLemmas::in_order, crate::proofs::SourceLemmas::paired))]
 pub fn in_order()
-    ensures { (own most boxes : ℕ) (E : List Event) → delivered own most boxes E ≡ released own most boxes E ++ (after own most boxes E).waits }
+    ensures paired { (own most boxes : ℕ) (E : List Event) → length (after own most boxes E).senders ≡ length (after own most boxes E).waits }
+    ensures order { (own most boxes : ℕ) (E : List Event) → delivered own most boxes E ≡ released own most boxes E ++ (after own most boxes E).waits }
 {}
 
 /// A session has its account, and its NAME, from the frame by which its source has one open on: no other in its place has another.
@@ -100,8 +123,13 @@ pub fn an_example()
     ensures last { IsPacket 128 11 2 3000 (8 ∷ 9 ∷ 255 ∷ 255 ∷ 255 ∷ 255 ∷ 255 ∷ []) 4000 last_packet }
 {}
 
-/// No session has more packets granted at once than may be: a CTS grants at most as many (`window`).
-#[tactic(auto, using(crate::proofs::HandedLemmas::all_few))]
+/// No session has more packets granted at once than may be, nor than its sender takes at once (J1939-21, 5.10.3.2): a CTS, whose second
+/// byte tells how many it grants, grants at most as many as may be.
 pub fn few_at_once()
-    ensures { (own most boxes : ℕ) (E : List Event) → 1 ≤ most → All (λ x. x.reception.most ≤ most) (after own most boxes E).sessions }
+    ensures most { (own most boxes : ℕ) (E : List Event) → 1 ≤ most → All (λ x. x.reception.most ≤ most) (after own most boxes E).sessions }
+    ensures asked { (own most boxes now size packets asked pgn : ℕ) (name : Option ℕ) (f : FrameRecord) (E : List Event) (x : Session)
+        → said_to own f ≡ Some (RequestToSend size packets asked pgn) → 1 ≤ asked → IsTrue (has_room (source_of f.id) (after own most boxes E))
+        → of (source_of f.id) (hears now name f (after own most boxes E)).sessions ≡ Some x → x.reception.most ≤ asked }
+    ensures grants { (own most boxes now n : ℕ) (f : FrameRecord) (E : List Event) (y : ToSend) → 1 ≤ most → said now f (after own most boxes E) ≡ Some y
+        → slice_get y.bytes 0 ≡ Some 17 → slice_get y.bytes 1 ≡ Some n → n ≤ most }
 {}

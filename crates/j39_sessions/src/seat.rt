@@ -10,7 +10,7 @@ ghost use Rattle.j39_transport.specs.ReceiverModel.{message_shown};
 ghost use Rattle.j39_transport.specs.Receiving.{new_receiver, said_to};
 ghost use Rattle.j39_transport.specs.Signals.{Abort, written};
 ghost use Rattle.j39_frame.specs.Pgn.{pgn_raw};
-ghost use Rattle.j39_sessions.specs.Sessions.{from, is_left, is_of, limit_in, longest, narrowed, number_in, shown, strays, tick_of};
+ghost use Rattle.j39_sessions.specs.Sessions.{fewest, from, is_left, is_of, limit_in, longest, narrowed, number_in, shown, strays, tick_of};
 
 use crate::sessions::is_same;
 use arrayvec::ArrayVec;
@@ -288,9 +288,21 @@ fn narrowed(most: u8, frame: &Frame) -> Option<Frame>
     if !(frame.id.is_transport_control() && bytes[0] == REQUEST_TO_SEND) {
         return None;
     }
-    let asked = bytes[4];
     let mut shown = [0; 8];
     shown.copy_from_slice(bytes);
-    shown[4] = if asked == 0 { most } else { asked.min(most) };
+    shown[4] = fewest(most, bytes[4]);
     Frame::new(frame.stamp, frame.id, &shown)
+}
+
+/// How many packets a sender takes at once, of those that may be granted; 0 sets no limit in either.
+fn fewest(most: u8, asked: u8) -> u8
+    ensures { result ≡ fewest most asked }
+{
+    if most == 0 {
+        asked
+    } else if asked == 0 {
+        most
+    } else {
+        asked.min(most)
+    }
 }

@@ -4,7 +4,7 @@ use Rattle.j39_groups.specs.Visits.{Stops}
 use Rattle.j39_fault_reports.proofs.FaultAccountLemmas.{faults_leave}
 use Rattle.j39_fault_reports.specs.CurrentPlaces.{LastActives}
 use Rattle.j39_fault_reports.specs.CurrentSoFar.{AreKept}
-use Rattle.j39_fault_reports.specs.FaultsNow.{active_among}
+use Rattle.j39_fault_reports.specs.Spoken.{active_among}
 use Rattle.j39_watch.specs.LatestSoFar.{AreLatest, Behind, HasFollowedMessage, WantsRoomAt}
 use Rattle.j39_fault_reports.specs.News.{is_fault_group}
 use Rattle.j39_watch.specs.NotesSoFar.{Notes, WantsOne, if_counts}

@@ -8,7 +8,8 @@ use Rattle.j39_fault_reports.proofs.CurrentLemmas.{shown_all}
 use Rattle.j39_fault_reports.proofs.FaultAccountLemmas.{faults_leave}
 use Rattle.j39_watch.proofs.LatestLemmas.{came_is}
 use Rattle.j39_fault_reports.specs.CurrentSoFar.{AreKept}
-use Rattle.j39_fault_reports.specs.FaultsNow.{Now, active_among, faults_now, is_active_message}
+use Rattle.j39_fault_reports.specs.FaultsNow.{Now, faults_now}
+use Rattle.j39_fault_reports.specs.Spoken.{active_among, is_active_message}
 use Rattle.j39_watch.specs.LatestSoFar.{AreLatest, LatestRow, latest_at, latest_over, latest_row}
 use Rattle.j39_fault_reports.specs.News.{is_fault_group}
 use Rattle.j39_watch.specs.NotesSoFar.{HasWatched, Keeps, Notes, lines_of_watch, moment_of, screen_of_watch, size_of}

@@ -13,7 +13,7 @@ use Rattle.j39_listen.specs.declared.listener.Listener.{Listener}
 use Rattle.j39_memory.specs.ByOrigin.{pairs_of}
 use Rattle.j39_fault_reports.specs.CurrentPlaces.{LastActives}
 use Rattle.j39_fault_reports.specs.CurrentSoFar.{AreKept}
-use Rattle.j39_fault_reports.specs.FaultsNow.{active_among}
+use Rattle.j39_fault_reports.specs.Spoken.{active_among}
 use Rattle.j39_watch.specs.LatestSoFar.{AreLatest}
 use Rattle.j39_fault_reports.specs.News.{is_fault_group}
 use Rattle.j39_watch.specs.ScreenSoFar.{lines_of_code}

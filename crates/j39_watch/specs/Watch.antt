@@ -23,7 +23,8 @@ use Rattle.j39_fault_reports.specs.Faults.{name_in}
 use Rattle.j39_faults.specs.Text.{code_text}
 use Rattle.j39_faults.specs.declared.code.Code.{Code}
 use Rattle.j39_faults.specs.declared.lamps.Lamps.{Lamps}
-use Rattle.j39_fault_reports.specs.FaultsNow.{Now, active_among, faults_now}
+use Rattle.j39_fault_reports.specs.FaultsNow.{Now, faults_now}
+use Rattle.j39_fault_reports.specs.Spoken.{active_among}
 use Rattle.j39_fault_reports.specs.FaultsNowRun.{IsFirstActive}
 use Rattle.j39_fault_reports.specs.News.{is_fault_group}
 use Rattle.j39_reports.specs.Summary.{firsts, last_of, values_like}

@@ -11,7 +11,7 @@ ghost use Rattle.j39_listen.specs.Report.{Entry, entries_of};
 ghost use Rattle.j39_memory.specs.ByOrigin.{pairs_of};
 ghost use Rattle.j39_fault_reports.specs.CurrentPlaces.{at};
 ghost use Rattle.j39_fault_reports.specs.CurrentSoFar.{AreKept};
-ghost use Rattle.j39_fault_reports.specs.FaultsNow.{active_among, is_active_message};
+ghost use Rattle.j39_fault_reports.specs.Spoken.{active_among, is_active_message};
 ghost use Rattle.j39_watch.specs.LatestSoFar.{AreLatest};
 ghost use Rattle.j39_fault_reports.specs.News.{is_fault_group};
 ghost use Rattle.j39_watch.specs.NotesSoFar.{Notes, WantsOne, if_counts};

@@ -12,6 +12,7 @@ use Rattle.j39_fault_reports.specs.FaultRun.{MakesFaults}
 use Rattle.j39_reports.specs.ReportRecords.{MakesRecords}
 use Rattle.j39_reports.specs.SummaryRun.{AsksForRows, MakesSummary}
 use Rattle.j39_fault_reports.specs.News.{news}
+use Rattle.j39_fault_reports.specs.declared.fault_news.telling.Telling.TheVariants.{News}
 use Rattle.j39_web.specs.Series.{MakesSeries}
 use Rattle.j39_web.specs.declared.writing.Writing.{Writing}
 use Rattle.j39_web.specs.declared.writing.Writing.TheVariants.{Report, Records, Summary, Faults, Series}
@@ -33,5 +34,5 @@ abbrev pub asks : Writing → List RowRecord → Wanting
 asks Report = λ rows. AsksForBoxes
 asks Records = λ rows. AsksForBoxes
 asks Summary = AsksForRows no_filter
-asks Faults = λ rows. AsksForFaults no_filter
+asks Faults = λ rows. AsksForFaults News no_filter
 asks (Series of) = λ rows. AsksForBoxes

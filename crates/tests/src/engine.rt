@@ -26,6 +26,8 @@ fn setup<'a>(name: Name, served: &'a [Pgn], subscribed: &'a [Pgn]) -> Setup<'a> 
         served,
         subscribed: Some(subscribed),
         broadcasts: 0,
+        sessions: 1,
+        window: 16,
     }
 }
 

@@ -32,6 +32,7 @@ mod node_hears;
 mod node_receives;
 #[cfg(test)]
 mod node_session;
+mod node_several;
 #[cfg(test)]
 mod node_stranger;
 #[cfg(test)]

@@ -39,7 +39,7 @@ static STEPS: &[Step] = &[
     // To another.
     Hears("(0.290000) can0 1CEC810B#10120003FFECFE00"),
     Gives(290_000, None),
-    // One session at a time.
+    // One session at a time, in one box: another's finds none.
     Hears("(0.300000) can0 1CEC800B#10120003FFECFE00"),
     Asks(Some(1_550_001)),
     Hears("(0.300100) can0 1CEC800C#10120003FFECFE00"),
@@ -49,7 +49,7 @@ static STEPS: &[Step] = &[
     ),
     Gives(
         300_200,
-        Some("(0000000000.300200) can0 1CEC0C80#FF01FFFFFFECFE00"),
+        Some("(0000000000.300200) can0 1CEC0C80#FF02FFFFFFECFE00"),
     ),
     Gives(300_200, None),
     Hears("(0.310000) can0 1CEB800B#013146554A413643"),

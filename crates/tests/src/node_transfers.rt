@@ -125,7 +125,7 @@ static ANSWERS: &[Step] = &[
     ),
     Gives(
         1_000_000,
-        Some("(0000000001.000000) can0 1CEC0D80#FF01FFFFFFECFE00"),
+        Some("(0000000001.000000) can0 1CEC0D80#FF02FFFFFFECFE00"),
     ),
     Gives(
         1_000_000,

@@ -3,7 +3,8 @@ use j39_address::Name;
 use j39_frame::Pgn;
 use j39_node::Setup;
 
-/// A controller of this NAME and address that serves these groups, subscribes all, and hears one broadcast in packets at a time.
+/// A controller of this NAME and address that serves these groups, subscribes all, and hears one broadcast in packets at a
+/// time, and one message in packets to its address.
 pub fn setup(name: u64, address: u8, served: &[Pgn]) -> Setup<'_> {
     Setup {
         name: Name::new(name),
@@ -12,5 +13,7 @@ pub fn setup(name: u64, address: u8, served: &[Pgn]) -> Setup<'_> {
         served,
         subscribed: None,
         broadcasts: 1,
+        sessions: 1,
+        window: 0,
     }
 }

@@ -46,6 +46,12 @@ pub struct Sent {
 /// How many broadcasts in packets a controller here hears at once.
 const BROADCASTS: u8 = 8;
 
+/// How many messages in packets it receives at once.
+const SESSIONS: u8 = 4;
+
+/// How many packets it lets a sender send at once.
+const WINDOW: u8 = 16;
+
 /// A controller, and the numbers that the book has for what it was handed and has not told to have ended.
 #[derive(Drop)]
 pub struct Station {
@@ -61,7 +67,7 @@ impl Station {
     pub fn new(alloc: Global, name: Name, address: u8) -> Result<Option<Station>, AllocError>
         ensures known { IfOk result (λ found. IsSome found ↔ IsAddress address) }
         ensures fresh { IfOk result (λ found. IfSome found (λ station. Is (record
-            { name = name_raw name; address = address; delay = 0; served = []; subscribed = None; boxes = 8; brought = nothing }) [] station.controller)) }
+            { name = name_raw name; address = address; delay = 0; served = []; subscribed = None; boxes = 8; sessions = 4; window = 16; brought = nothing }) [] station.controller)) }
     {
         let setup = Setup {
             name,
@@ -70,6 +76,8 @@ impl Station {
             served: &[],
             subscribed: None,
             broadcasts: BROADCASTS,
+            sessions: SESSIONS,
+            window: WINDOW,
         };
         let Some(controller) = Controller::new(alloc, &setup)? else {
             return Ok(None);
@@ -311,7 +319,7 @@ impl Station {
     /// Notes the message in packets that came to its address.
     fn deliver(&mut self, book: &mut Book) -> Result<(), AllocError>
         ensures delivered { OnOk result ((w : Who) (H : List Call) → Is w H self.old.controller
-            → delivered_in book.new ≡ delivered_in book.old ++ listed (reception w H).waits) }
+            → delivered_in book.new ≡ delivered_in book.old ++ listed (slice_get (reception w H).waits 0)) }
         ensures calls { OnOk result ((waits : Bool)
             × Continues (ReleaseTransfer waits) self.old.controller self.new.controller) }
         ensures done { book.new.done ≡ book.old.done }

@@ -8,7 +8,7 @@ ghost use Rattle.j39_listen.specs.Heard.{AreHeardWith, Hearing};
 ghost use Rattle.j39_listen.specs.HeardModel.{hearing_of};
 ghost use Rattle.j39_listen.specs.Listening.{Hears};
 ghost use Rattle.j39_listen.specs.Output.{nothing};
-ghost use Rattle.j39_fault_reports.specs.FaultsNow.{active_among, is_active_message, is_of_active};
+ghost use Rattle.j39_fault_reports.specs.Spoken.{active_among, is_active_message, is_of_active};
 ghost use Rattle.j39_fault_reports.specs.FaultsNowRun.{AsksForFaultsNow};
 ghost use Rattle.j39_fault_reports.specs.CurrentSoFar.{AreKept, HasKept, KnowsBrokenNow, TakesFrame};
 ghost use Rattle.j39_fault_reports.specs.CurrentPlaces.{at};

@@ -3,11 +3,12 @@ ghost use Rattle.std.specs.Prelude.{◌≡◌, ◌≤◌, ◌<◌, Some, length,
 ghost use Rattle.j39_address.specs.Name.{name_raw};
 ghost use Rattle.j39_faults.specs.Conversions.{version_for};
 ghost use Rattle.j39_listen.specs.HeardModel.{hearing_of};
-ghost use Rattle.j39_fault_reports.specs.FaultsNow.{codes_in, is_same_name};
+ghost use Rattle.j39_fault_reports.specs.FaultsNow.{codes_in};
+ghost use Rattle.j39_fault_reports.specs.Spoken.{is_same_name};
 ghost use Rattle.j39_fault_reports.specs.CurrentPlaces.{last_by, next_standings, standing_record, standings_under};
 
 use crate::current_faults::standing::{FEW, Standing, Standings, next_standings};
-use crate::fault_news::last_message::is_same_or_none;
+use crate::fault_news::last_message::{goes_on, is_same_name};
 use j39_address::Name;
 use j39_faults::{Conversion, Lamps, version_for};
 use j39_frame::{Pgn, Stamp};
@@ -54,7 +55,7 @@ impl LastActive {
         LastActive::behind(&[], conversions, heard, lamps)
     }
 
-    /// Says what the next message of the address does.
+    /// Says what the next message does, of the same controller or from the same address.
     pub(crate) fn go_on(&mut self, conversions: &[Conversion], heard: &Heard<'_>, lamps: Lamps)
         requires { length heard.now.message.payload.now ≤ 1785 }
         ensures { self.new ≡ last_by conversions.now (Some self.old) (hearing_of heard.now) lamps }
@@ -124,11 +125,11 @@ impl LastActive {
         }
     }
 
-    /// What stands, if it came under this NAME, or both came under none; else nothing.
+    /// What stands, if it may be of who speaks now, under this NAME; else nothing.
     fn standings_under(&self, name: Option<Name>) -> &[Standing]
         ensures { map standing_record result.now ≡ standings_under (Some self.now) (option_map name_raw name) }
     {
-        if is_same_or_none(self.name, name) {
+        if goes_on(self.name, name) {
             self.standings.as_slice()
         } else {
             &[]
@@ -139,10 +140,6 @@ impl LastActive {
     pub fn is_of(&self, name: Option<Name>) -> bool
         ensures { result ≡ is_same_name self.now.name (option_map name_raw name) }
     {
-        match (self.name, name) {
-            (None, _) => false,
-            (Some(_), None) => false,
-            (Some(one), Some(name)) => one.raw() == name.raw(),
-        }
+        is_same_name(self.name, name)
     }
 }

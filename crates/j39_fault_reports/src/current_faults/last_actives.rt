@@ -1,9 +1,11 @@
 //! For each address what the last message of active codes of its controller says.
+ghost use Rattle.std.specs.Option.{option_or};
 ghost use Rattle.std.specs.Prelude.{◌≡◌, ◌≤◌, ◌<◌, ℕ, IfOk, None, OnErr, OnOk, Some, length, option_map, replicate, slice_set, if◌then◌else◌};
 ghost use Rattle.j39_address.specs.Name.{name_raw};
 ghost use Rattle.j39_listen.specs.HeardModel.{hearing_of};
 ghost use Rattle.j39_memory.specs.Stored.{value_of};
-ghost use Rattle.j39_fault_reports.specs.CurrentPlaces.{AreLeft, HaveTaken, at, last_by, left_by, stored_in};
+ghost use Rattle.j39_fault_reports.specs.CurrentPlaces.{at, last_by, name_in, stored_in};
+ghost use Rattle.j39_fault_reports.specs.Places.{AreLeft, HaveTaken, IsTakenOut, is_of, kept_before, kept_below};
 
 use crate::current_faults::last_active::LastActive;
 use crate::fault_news::account::is_byte;
@@ -69,8 +71,8 @@ impl LastActives {
         }
     }
 
-    /// Takes what a message of active codes says; what its NAME said at another address is left. Memory is taken if
-    /// nothing is kept of its address.
+    /// Takes what a message of active codes says, behind what its controller said before, at whichever address. Memory is taken
+    /// if nothing is kept of either.
     pub fn take(
         &mut self,
         alloc: Global,
@@ -79,25 +81,54 @@ impl LastActives {
         lamps: Lamps,
     ) -> Result<(), AllocError>
         requires { length heard.now.message.payload.now ≤ 1785 }
-        ensures taken { OnOk result (HaveTaken conversions.now self.old (hearing_of heard.now) lamps self.new) }
+        ensures taken { OnOk result (HaveTaken name_in self.old (option_map name_raw heard.now.name) heard.now.message.source
+            (last_by conversions.now (kept_before name_in self.old (option_map name_raw heard.now.name) heard.now.message.source) (hearing_of heard.now) lamps) self.new) }
         ensures first { OnErr result (at self.old heard.now.message.source ≡ None) }
     {
         let _fits = is_byte(heard.message.source);
         let source = usize::from(heard.message.source);
-        let before = self.take_out(source);
-        self.leave(heard.name);
+        let before = self.take_before(source, heard.name);
         let last = next(alloc, before, conversions, heard, lamps)?;
         self.put(source, Some(last));
         Ok(())
     }
 
-    /// Leaves what a NAME said at whichever address.
-    fn leave(&mut self, name: Option<Name>)
-        ensures { length self.old ≡ 256 → AreLeft (option_map name_raw name) self.old 256 self.new }
+    /// Takes out what a NAME said, at whichever address, or else what was said at this one.
+    fn take_before(&mut self, address: usize, name: Option<Name>) -> ActiveBox
+        requires { address < 256 }
+        ensures { IsTakenOut name_in self.old (option_map name_raw name) address (stored_in result) self.new }
     {
+        let _ = &self.places;
+        if self.is_of(address, name) {
+            return self.take_out(address);
+        }
+        let moved = self.leave(name);
+        let here = self.take_out(address);
+        either(moved, here)
+    }
+
+    /// Takes out what a NAME said at whichever address.
+    fn leave(&mut self, name: Option<Name>) -> ActiveBox
+        ensures left { length self.old ≡ 256 → AreLeft name_in (option_map name_raw name) self.old 256 self.new }
+        ensures found { length self.old ≡ 256 → stored_in result ≡ kept_below name_in self.old (option_map name_raw name) 256 }
+    {
+        let mut found = None;
         for address in 0..SOURCES {
-            let last = self.take_out(address);
-            self.put(address, left(last, name));
+            if self.is_of(address, name) {
+                found = self.take_out(address);
+            }
+        }
+        found
+    }
+
+    /// Whether what was said there was under this NAME.
+    fn is_of(&self, address: usize, name: Option<Name>) -> bool
+        requires { address < 256 }
+        ensures { result ≡ is_of name_in (option_map name_raw name) (at self.now address) }
+    {
+        match self.get(address) {
+            Some(last) => last.is_of(name),
+            None => false,
         }
     }
 
@@ -121,17 +152,17 @@ impl LastActives {
     }
 }
 
-/// What was said, unless it was under this NAME.
-fn left(last: ActiveBox, name: Option<Name>) -> ActiveBox
-    ensures { stored_in result ≡ left_by (option_map name_raw name) (stored_in last) }
+/// The first that was said.
+fn either(moved: ActiveBox, here: ActiveBox) -> ActiveBox
+    ensures { stored_in result ≡ option_or (stored_in moved) (stored_in here) }
 {
-    match last {
-        Some(last) => { if last.is_of(name) { None } else { Some(last) } }
-        None => None,
+    match moved {
+        Some(last) => Some(last),
+        None => here,
     }
 }
 
-/// What a message says behind what its address said before, in the same box if there is one.
+/// What a message says behind what was said before, in the same box if there is one.
 fn next(
     alloc: Global,
     before: ActiveBox,

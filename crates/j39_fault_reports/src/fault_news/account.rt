@@ -16,9 +16,9 @@ ghost use Rattle.j39_listen.specs.HeardModel.{hearing_of};
 ghost use Rattle.j39_listen.specs.declared.account.LineFault.TheVariants as line_fault;
 ghost use Rattle.j39_fault_reports.specs.FaultAsking.{AsksForFaults};
 ghost use Rattle.j39_fault_reports.specs.Faults.{clearing_of};
-ghost use Rattle.j39_fault_reports.specs.News.{chosen_of, faults_among, is_fault_group, is_of_faults, last_from};
+ghost use Rattle.j39_fault_reports.specs.News.{chosen_of, faults_among, is_fault_group, is_of_faults};
 ghost use Rattle.j39_fault_reports.specs.FaultRun.{faults_of};
-ghost use Rattle.j39_fault_reports.specs.Remembered.{Remembers};
+ghost use Rattle.j39_fault_reports.specs.Remembered.{IsFirst, Remembers};
 ghost use Rattle.j39_fault_reports.specs.FaultsSoFar.{HasTold, KnowsBroken, MeetsFrame, StopsFrame, Tells, TellsFaults, TellsFront, manner_of, tells_clearing, told_faults};
 
 use crate::fault_news::announced::Announced;
@@ -92,7 +92,7 @@ impl<'g, 't, 'c> Account for FaultNews<'g, 't, 'c> {
 
     ghost makes = { λ subject. MakesFaultsIn subject.0 subject.1.manner subject.1.which };
 
-    ghost asks = { λ subject. AsksForFaults subject.1.which.asked };
+    ghost asks = { λ subject. AsksForFaults subject.1.which.telling subject.1.which.asked };
 
     /// Most frames are of groups that nobody hears.
     #[inline(always)]
@@ -146,17 +146,17 @@ fn put_frame<W: Sink>(
     sink: &mut W,
 ) -> Result<Made, LineFault>
     ensures met { IfOk result (λ made. (F : List FrameRecord) (ms : List Hearing) → Hears listener.old F
-        → Chooses (chosen_of choice.entry).asked chooser.now (F ++ frame.now ∷ []) → Remembers last.old ms → MeetsFrame writing.entry.form (manner_of writing.entry) (chosen_of choice.entry) listener.new last.new
+        → Chooses (chosen_of choice.entry).asked chooser.now (F ++ frame.now ∷ []) → Remembers choice.entry.telling last.old ms → MeetsFrame writing.entry.form (manner_of writing.entry) (chosen_of choice.entry) listener.new last.new
         announced.old announced.new F frame.now ms made (W.written sink.old) (W.written sink.new)) }
     ensures writer { LeavesWriter result (turn W.written W.has_failed sink.old sink.new) }
     ensures stops { result ≡ Err line_fault.Write → (F : List FrameRecord) (ms : List Hearing) → Hears listener.old F
-        → Chooses (chosen_of choice.entry).asked chooser.now (F ++ frame.now ∷ []) → Remembers last.old ms → StopsFrame writing.entry.form (manner_of writing.entry) (chosen_of choice.entry) F frame.now ms
+        → Chooses (chosen_of choice.entry).asked chooser.now (F ++ frame.now ∷ []) → Remembers choice.entry.telling last.old ms → StopsFrame writing.entry.form (manner_of writing.entry) (chosen_of choice.entry) F frame.now ms
         (W.written sink.old) (W.written sink.new) }
     ensures asked { result ≡ Err line_fault.Memory → (F : List FrameRecord) (heard : List Hearing)
         → Hears listener.old F → AreHeardWith is_fault_group F heard
         → Chooses (chosen_of choice.entry).asked chooser.now (F ++ frame.now ∷ [])
-        → Remembers last.old (in_time (chosen_of choice.entry).asked (first_stamp (F ++ frame.now ∷ [])) (faults_among heard))
-        → AsksForFaults (chosen_of choice.entry).asked F frame.now }
+        → Remembers choice.entry.telling last.old (in_time (chosen_of choice.entry).asked (first_stamp (F ++ frame.now ∷ [])) (faults_among heard))
+        → AsksForFaults choice.entry.telling (chosen_of choice.entry).asked F frame.now }
 {
     announced.add_frame(frame);
     let is_single = is_of_fault_group(frame.id);
@@ -195,19 +195,19 @@ fn put_heard<W: Sink>(
     ensures met { IfOk result (λ made. (first : ℕ) (ms : List Hearing)
         → asked.is_in_time ≡ is_in_time (chosen_of choice.entry).asked first (hearing_of heard.now).stamp
         → asked.is_taken ≡ takes_message (chosen_of choice.entry).asked first (hearing_of heard.now)
-        → Remembers last.old ms → length heard.now.message.payload.now ≤ 1785
+        → Remembers choice.entry.telling last.old ms → length heard.now.message.payload.now ≤ 1785
         → Tells writing.entry.form (manner_of writing.entry) (chosen_of choice.entry) first last.new ms (Some (hearing_of heard.now)) made
         (W.written sink.old) (W.written sink.new)) }
     ensures writer { LeavesWriter result (turn W.written W.has_failed sink.old sink.new) }
     ensures stops { result ≡ Err line_fault.Write → (first : ℕ) (ms : List Hearing)
         → asked.is_taken ≡ takes_message (chosen_of choice.entry).asked first (hearing_of heard.now)
-        → Remembers last.old ms → length heard.now.message.payload.now ≤ 1785
+        → Remembers choice.entry.telling last.old ms → length heard.now.message.payload.now ≤ 1785
         → TellsFront writing.entry.form (manner_of writing.entry) (chosen_of choice.entry) first ms (Some (hearing_of heard.now))
         (W.written sink.old) (W.written sink.new) }
     ensures of_faults { result ≡ Err line_fault.Memory → is_of_faults (hearing_of heard.now) ≡ true }
     ensures now { result ≡ Err line_fault.Memory → asked.is_in_time ≡ true }
-    ensures first { result ≡ Err line_fault.Memory → (ms : List Hearing) → Remembers last.old ms
-        → last_from (pgn_raw heard.now.message.pgn) heard.now.message.source ms ≡ None }
+    ensures first { result ≡ Err line_fault.Memory → (ms : List Hearing) → Remembers choice.entry.telling last.old ms
+        → IsFirst choice.entry.telling ms (hearing_of heard.now) }
 {
     if let Some(kind) = cleared_in(heard.message.pgn, heard.message.payload) {
         let is_told = tells_clearing(choice.telling, asked.is_taken);

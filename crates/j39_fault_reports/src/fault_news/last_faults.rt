@@ -2,6 +2,7 @@
 ghost use Rattle.std.specs.Prelude.{◌≡◌, [], IfOk, None, OnErr, OnOk, option_map};
 ghost use Rattle.j39_address.specs.Name.{name_raw};
 ghost use Rattle.j39_fault_reports.specs.Remembered.{Remembers, noted, said_at};
+ghost use Rattle.j39_fault_reports.specs.declared.fault_news.telling.Telling.{Telling};
 ghost use Rattle.j39_fault_reports.specs.LastMessages.{differs, said_by};
 
 use crate::fault_news::last_messages::LastMessages;
@@ -24,7 +25,7 @@ pub(crate) struct LastFaults {
 impl LastFaults {
     /// Nobody said anything.
     pub(crate) fn new() -> LastFaults
-        ensures { Remembers result [] }
+        ensures { (telling : Telling) → Remembers telling result [] }
     {
         LastFaults {
             active: LastMessages::new(),

@@ -4,6 +4,7 @@ ghost use Rattle.j39_address.specs.Name.{name_raw};
 ghost use Rattle.j39_frame.specs.Origin.{is_same_or_none};
 ghost use Rattle.j39_fault_reports.specs.LastMessages.{is_said, said_before, said_by};
 ghost use Rattle.j39_fault_reports.specs.News.{goes_on};
+ghost use Rattle.j39_fault_reports.specs.Spoken.{is_same_name};
 
 use arrayvec::ArrayVec;
 use j39_address::Name;
@@ -59,6 +60,13 @@ impl LastMessage {
         }
     }
 
+    /// Whether it came under this NAME.
+    pub(crate) fn is_of(&self, name: Option<Name>) -> bool
+        ensures { result ≡ is_same_name self.now.name (option_map name_raw name) }
+    {
+        is_same_name(self.name, name)
+    }
+
     /// Whether a payload tells the same by this version of the conversion, under the same NAME or under none.
     pub(crate) fn is(&self, version: Option<Version>, payload: &[u8], name: Option<Name>) -> bool
         ensures { result ≡ is_said version self.now payload.now (option_map name_raw name) }
@@ -81,7 +89,7 @@ fn front_of(payload: &[u8]) -> &[u8]
 }
 
 /// Whether who speaks under the later NAME may be who spoke before: under the same, or before a claim told any.
-fn goes_on(before: Option<Name>, now: Option<Name>) -> bool
+pub(crate) fn goes_on(before: Option<Name>, now: Option<Name>) -> bool
     ensures { result ≡ goes_on (option_map name_raw before) (option_map name_raw now) }
 {
     match (before, now) {
@@ -92,12 +100,23 @@ fn goes_on(before: Option<Name>, now: Option<Name>) -> bool
 }
 
 /// Whether two messages came under one NAME, or both under none.
-pub(crate) fn is_same_or_none(one: Option<Name>, other: Option<Name>) -> bool
+fn is_same_or_none(one: Option<Name>, other: Option<Name>) -> bool
     ensures { result ≡ is_same_or_none (option_map name_raw one) (option_map name_raw other) }
 {
     match (one, other) {
         (None, None) => true,
         (None, Some(_)) => false,
+        (Some(_), None) => false,
+        (Some(one), Some(other)) => one.raw() == other.raw(),
+    }
+}
+
+/// Whether two messages came under one NAME.
+pub(crate) fn is_same_name(one: Option<Name>, other: Option<Name>) -> bool
+    ensures { result ≡ is_same_name (option_map name_raw one) (option_map name_raw other) }
+{
+    match (one, other) {
+        (None, _) => false,
         (Some(_), None) => false,
         (Some(one), Some(other)) => one.raw() == other.raw(),
     }

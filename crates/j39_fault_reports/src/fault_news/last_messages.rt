@@ -1,8 +1,10 @@
 //! For each address what was said last.
-ghost use Rattle.std.specs.Prelude.{◌≡◌, IfOk, None, OnErr, OnOk, Some, option_map, replicate, slice_set};
+ghost use Rattle.std.specs.Option.{option_or};
+ghost use Rattle.std.specs.Prelude.{◌≡◌, ◌<◌, IfOk, None, OnErr, OnOk, Some, length, option_map, replicate, slice_set};
 ghost use Rattle.j39_address.specs.Name.{name_raw};
 ghost use Rattle.j39_memory.specs.Stored.{value_of};
-ghost use Rattle.j39_fault_reports.specs.LastMessages.{at, differs, stored_in, said_by};
+ghost use Rattle.j39_fault_reports.specs.LastMessages.{at, differs, name_of, stored_in, said_by};
+ghost use Rattle.j39_fault_reports.specs.Places.{AreLeft, IsTakenOut, is_of, kept_below};
 
 use crate::fault_news::last_message::LastMessage;
 use j39_address::Name;
@@ -55,13 +57,54 @@ impl LastMessages {
         LastMessages { places }
     }
 
-    /// Takes out what an address said last.
-    #[tactic(auto, using(crate::proofs::PlaceLemmas::left_empty, crate::proofs::PlaceLemmas::shown_at))]
-    pub(crate) fn take(&mut self, source: u8) -> MessageBox
-        ensures after { self.new ≡ slice_set self.old source None }
-        ensures value { stored_in result ≡ at self.old source }
+    /// Takes out what a NAME said, at whichever address, or else what was said at this one.
+    pub(crate) fn take_before(&mut self, address: usize, name: Option<Name>) -> MessageBox
+        requires { address < 256 }
+        ensures { IsTakenOut name_of self.old (option_map name_raw name) address (stored_in result) self.new }
     {
-        self.places[usize::from(source)].take()
+        let _ = &self.places;
+        if self.is_of(address, name) {
+            return self.take(address);
+        }
+        let moved = self.leave(name);
+        let here = self.take(address);
+        either(moved, here)
+    }
+
+    /// Takes out what a NAME said at whichever address.
+    fn leave(&mut self, name: Option<Name>) -> MessageBox
+        ensures left { length self.old ≡ 256 → AreLeft name_of (option_map name_raw name) self.old 256 self.new }
+        ensures found { length self.old ≡ 256 → stored_in result ≡ kept_below name_of self.old (option_map name_raw name) 256 }
+    {
+        let mut found = None;
+        for address in 0..SOURCES {
+            if self.is_of(address, name) {
+                found = self.take(address);
+            }
+        }
+        found
+    }
+
+    /// Whether what was said there was under this NAME.
+    #[tactic(auto, using(crate::proofs::PlaceLemmas::shown_at))]
+    fn is_of(&self, address: usize, name: Option<Name>) -> bool
+        requires { address < 256 }
+        ensures { result ≡ is_of name_of (option_map name_raw name) (at self.now address) }
+    {
+        match &self.places[address] {
+            Some(said) => said.is_of(name),
+            None => false,
+        }
+    }
+
+    /// Takes out what was said last at an address.
+    #[tactic(auto, using(crate::proofs::PlaceLemmas::left_empty, crate::proofs::PlaceLemmas::shown_at))]
+    fn take(&mut self, address: usize) -> MessageBox
+        requires { address < 256 }
+        ensures after { self.new ≡ slice_set self.old address None }
+        ensures value { stored_in result ≡ at self.old address }
+    {
+        self.places[address].take()
     }
 
     /// Puts in what an address says.
@@ -90,7 +133,7 @@ impl LastMessages {
         ensures first { OnErr result (at self.old source ≡ None) }
         ensures kept { OnErr result (self.new ≡ self.old) }
     {
-        let Some(mut said) = self.take(source) else {
+        let Some(mut said) = self.take(usize::from(source)) else {
             self.put(source, Stored::new(alloc, LastMessage::new(payload, name))?);
             return Ok(true);
         };
@@ -98,5 +141,15 @@ impl LastMessages {
         said.replace(payload, name);
         self.put(source, said);
         Ok(!is_known)
+    }
+}
+
+/// The first that was said.
+fn either(moved: MessageBox, here: MessageBox) -> MessageBox
+    ensures { stored_in result ≡ option_or (stored_in moved) (stored_in here) }
+{
+    match moved {
+        Some(said) => Some(said),
+        None => here,
     }
 }

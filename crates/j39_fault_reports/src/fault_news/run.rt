@@ -55,7 +55,7 @@ pub fn faults<R: Source, W: Sink>(
     // What the run promises is `Ran`: what is written is the faults that are told in the frames of the log, and nothing
     // else. Memory is wanted only at a frame of the log that announces a message, or at the first message of faults of
     // its group from an address between the moments. And it counts which messages of codes were broken.
-    ensures told { ToldFaults (MakesFaults format (record { rows = groups.now; spns = spns_now choice.entry.spns }) (chosen_of choice.entry)) (AsksForFaults (which_of choice.entry.filter)) bus limit result
+    ensures told { ToldFaults (MakesFaults format (record { rows = groups.now; spns = spns_now choice.entry.spns }) (chosen_of choice.entry)) (AsksForFaults choice.entry.telling (which_of choice.entry.filter)) bus limit result
         (turn R.remaining R.has_failed source.old source.new) (turn W.written W.has_failed sink.old sink.new) }
 
     // What was written is passed on at the end, and before each read, the names of the columns before the first.

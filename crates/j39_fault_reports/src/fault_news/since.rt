@@ -1,14 +1,16 @@
 //! What is told of a message of codes, behind what its address said before.
-ghost use Rattle.std.specs.Prelude.{◌≡◌, ◌≢◌, None, OnOk, Some, Err, option_map, slice_set};
+ghost use Rattle.std.specs.Prelude.{◌≡◌, ◌≢◌, None, OnOk, Some, Err, false, option_map, true};
 ghost use Rattle.j39_io.specs.Turn.{turn};
 ghost use Rattle.j39_address.specs.Name.{name_raw};
 ghost use Rattle.j39_listen.specs.HeardModel.{hearing_of};
 ghost use Rattle.j39_listen.specs.declared.account.LineFault.TheVariants as line_fault;
-ghost use Rattle.j39_fault_reports.specs.FaultChanges.{changes_by, is_active};
+ghost use Rattle.j39_fault_reports.specs.FaultChanges.{changes_by};
+ghost use Rattle.j39_fault_reports.specs.Spoken.{is_active};
 ghost use Rattle.j39_fault_reports.specs.Faults.{faults_by};
-ghost use Rattle.j39_fault_reports.specs.FaultsSoFar.{TellsFaults, is_told, manner_of, tells_changes, told_faults, told_since};
-ghost use Rattle.j39_fault_reports.specs.LastMessages.{at, said_before, said_by};
-ghost use Rattle.j39_fault_reports.specs.Remembered.{noted, said_at};
+ghost use Rattle.j39_fault_reports.specs.FaultsSoFar.{TellsFaults, is_told, manner_of, told_faults, told_since};
+ghost use Rattle.j39_fault_reports.specs.Places.{HaveTaken, kept_before};
+ghost use Rattle.j39_fault_reports.specs.LastMessages.{at, name_of, said_before, said_by};
+ghost use Rattle.j39_fault_reports.specs.Remembered.{before_of, noted, said_at, tells_changes};
 
 use crate::fault_news::changes::put_changes;
 use crate::fault_news::form::Writing;
@@ -36,10 +38,14 @@ pub(crate) fn put_since<W: Sink>(
 ) -> Result<Made, LineFault>
     ensures tells { TellsFaults writing.entry.form (manner_of writing.entry)
         (told_faults is_asked
-        (told_since telling version (said_at last.old kind heard.now.message.source) (hearing_of heard.now) kind lamps))
+        (told_since telling version (before_of telling last.old kind (hearing_of heard.now)) (hearing_of heard.now) kind lamps))
         result (turn W.written W.has_failed sink.old sink.new) }
-    ensures after { OnOk result (last.new ≡ noted last.old kind heard.now.message.source
+    ensures noted { OnOk result (tells_changes telling kind ≡ false → last.new ≡ noted last.old kind heard.now.message.source
         (said_by heard.now.message.payload.now (option_map name_raw heard.now.name))) }
+    ensures alone { OnOk result (tells_changes telling kind ≡ true → last.new ≡ record last.old { active = last.new.active }) }
+    ensures moved { OnOk result (tells_changes telling kind ≡ true
+        → HaveTaken name_of last.old.active (option_map name_raw heard.now.name) heard.now.message.source
+        (said_by heard.now.message.payload.now (option_map name_raw heard.now.name)) last.new.active) }
     ensures first { result ≡ Err line_fault.Memory → said_at last.old kind heard.now.message.source ≡ None }
 {
     if tells_changes(telling, kind) {
@@ -129,8 +135,8 @@ fn put_told<W: Sink>(
     }
 }
 
-/// Tells what became of active codes, if it is asked for, and notes what the message says. Memory is taken where its
-/// address said nothing before.
+/// Tells what became of active codes since its controller's last message, if it is asked for, and notes what this one says. Memory
+/// is taken where nothing was said before.
 fn put_active<W: Sink>(
     alloc: Global,
     heard: &Heard<'_>,
@@ -142,15 +148,15 @@ fn put_active<W: Sink>(
     sink: &mut W,
 ) -> Result<Made, LineFault>
     ensures tells { TellsFaults writing.entry.form (manner_of writing.entry) (told_faults is_asked (changes_by version
-        (said_before (at active.old heard.now.message.source) (option_map name_raw heard.now.name))
+        (said_before (kept_before name_of active.old (option_map name_raw heard.now.name) heard.now.message.source) (option_map name_raw heard.now.name))
         (hearing_of heard.now) lamps))
         result (turn W.written W.has_failed sink.old sink.new) }
-    ensures after { OnOk result (active.new ≡ slice_set active.old heard.now.message.source
-        (Some (said_by heard.now.message.payload.now (option_map name_raw heard.now.name)))) }
+    ensures moved { OnOk result (HaveTaken name_of active.old (option_map name_raw heard.now.name) heard.now.message.source
+        (said_by heard.now.message.payload.now (option_map name_raw heard.now.name)) active.new) }
     ensures first { result ≡ Err line_fault.Memory → at active.old heard.now.message.source ≡ None }
 {
     let (source, payload) = (heard.message.source, heard.message.payload);
-    let Some(mut said) = active.take(source) else {
+    let Some(mut said) = active.take_before(usize::from(source), heard.name) else {
         return match active.note(alloc, version, source, payload, heard.name) {
             Err(AllocError) => Err(LineFault::Memory),
             Ok(_) => put_made(heard, writing, is_asked, version, lamps, &[], sink),

@@ -10,9 +10,9 @@ pub enum Telling {
     News,
     /// The codes of each.
     All,
-    /// What became of active codes: of each message of DM1 the codes that are set, or came again, since the last from
-    /// that address, and those that are cleared. A message isn't compared with one under another NAME: all its codes are set. That
-    /// its NAME wasn't known yet before, or that it has none any more, is another thing: the first is compared, the second not.
+    /// What became of active codes: of each message of DM1 the codes that are set, or came again, since the last of its
+    /// controller, and those that are cleared. A controller is known by its NAME, at whichever address, while no other sends DM1
+    /// from there; or else by its address, before it has a NAME. Of another one all codes are set.
     Changes,
 }
 

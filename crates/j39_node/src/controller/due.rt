@@ -3,10 +3,11 @@ ghost use Rattle.std.specs.Prelude.{◌≡◌, Option, List, ◌&&◌, ◌||◌,
 ghost use Rattle.std.specs.Option.{option_map};
 ghost use Rattle.j39_frame.specs.Stamp.{stamp_micros};
 ghost use Rattle.j39_node.specs.History.{Who, Call, is_left};
+ghost use Rattle.j39_node.specs.Reception.{replies_of};
 ghost use Rattle.j39_node.specs.Ticks.{next_tick};
 ghost use Rattle.j39_node.specs.Transfers.{clock, next_due, packet_in, packets_in, sooner, transfer_in};
 ghost use Rattle.j39_node.specs.Hold.{can_claim, stands};
-ghost use Rattle.j39_node.specs.Asking.{in_session, is_coming, out_at};
+ghost use Rattle.j39_node.specs.Asking.{is_coming, out_at};
 ghost use Rattle.j39_node.specs.Is.{asking_of, Is, lane_of, port_of, hearing_of, incoming_of, waits_with};
 
 use crate::controller::Controller;
@@ -43,7 +44,7 @@ impl Controller {
     /// When the open request times out.
     fn request_tick(&self) -> Option<Stamp>
         ensures { option_map stamp_micros result ≡ out_at (waits_with (is_coming (incoming_of self.now.incoming).clock (option_map (λ x. x.question) (asking_of self.now.asking))
-            (in_session (incoming_of self.now.incoming).reception.session)
+            (incoming_of self.now.incoming).reception.sessions
             (hearing_of self.now.hearing).listening.current) (asking_of self.now.asking))
             self.now.hold.moment self.now.hold.wait }
     {
@@ -58,7 +59,7 @@ impl Controller {
     fn has_frame(&self) -> bool
         ensures { result ≡ (can_claim self.now.hold || (stands self.now.hold.standing
             && (nat_lt self.now.taken (length self.now.outgoing.items) || (nat_lt 0 (length self.now.desk.due.items)
-            || nat_lt 0 (length self.now.incoming.replies.items))))) }
+            || nat_lt 0 (length (replies_of (incoming_of self.now.incoming).reception)))))) }
     {
         self.hold.claims(false) || (self.hold.is_held() && self.is_waiting())
     }
@@ -80,11 +81,9 @@ impl Controller {
     /// A message, an acknowledgment or a reply waits.
     pub(super) fn is_waiting(&self) -> bool
         ensures { result ≡ (nat_lt self.now.taken (length self.now.outgoing.items) || (nat_lt 0 (length self.now.desk.due.items)
-            || nat_lt 0 (length self.now.incoming.replies.items))) }
+            || nat_lt 0 (length (replies_of (incoming_of self.now.incoming).reception)))) }
     {
-        self.taken < self.outgoing.len()
-            || 0 < self.desk.due.len()
-            || 0 < self.incoming.replies.len()
+        self.taken < self.outgoing.len() || 0 < self.desk.due.len() || self.incoming.has_reply()
     }
 }
 

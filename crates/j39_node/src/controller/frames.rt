@@ -5,6 +5,7 @@ ghost use Rattle.std.specs.Option.{option_map};
 ghost use Rattle.j39_frame.specs.Address.{null_address};
 ghost use Rattle.j39_frame.specs.Stamp.{stamp_micros};
 ghost use Rattle.j39_node.specs.History.{Who, Call, is_left, nothing, content};
+ghost use Rattle.j39_node.specs.Reception.{replies_of};
 ghost use Rattle.j39_node.specs.Transfers.{clock, transfer_by};
 ghost use Rattle.j39_node.specs.Hold.{lost, stands};
 ghost use Rattle.j39_node.specs.History.Call.{At};
@@ -50,7 +51,7 @@ impl Controller {
             let address = self.claim_address();
             self.hold = hold.claimed();
             let claim = self.own.claim(address, now)?;
-            self.incoming.note(&mut self.holders, &claim, None, false);
+            self.incoming.note(&mut self.holders, &claim);
             self.incoming.call(Some(address), now);
             let breaks = self.hearing.leave(None, &self.holders, self.incoming.clock);
             self.news = self.news.with_missed(breaks);
@@ -76,7 +77,7 @@ impl Controller {
         match self.turn(hold, now)? {
             Turn::Reply => {
                 self.hold = hold.spoken();
-                self.incoming.replies.remove(0).frame(self.own.address, now)
+                self.incoming.take_frame(now)
             }
             Turn::Single => {
                 let next = self.outgoing.as_slice().get(self.taken)?;
@@ -121,7 +122,7 @@ impl Controller {
     /// The frame that goes next, beside claims and acknowledgments.
     fn peek_other(&self, hold: Hold, now: Stamp) -> Option<Frame>
         ensures { option_map stamped result ≡ option_map (λ m. (stamp_micros now, m))
-            (turn_frame (turn_of hold.yields (ready_in self.now hold)) (slice_get (incoming_of self.now.incoming).reception.replies 0)
+            (turn_frame (turn_of hold.yields (ready_in self.now hold)) (slice_get (replies_of (incoming_of self.now.incoming).reception) 0)
             (option_map posted (slice_get self.now.outgoing.items self.now.taken))
             (packet_by (lane_of (who_of nothing self.now.own) self.now.lane).current self.now.lane.count hold.pause)
             (transfer_by (port_of self.now.transfers).current (clock hold.age))) }
@@ -159,7 +160,7 @@ impl Controller {
         let is_left = self.lane.is_left();
         Ready {
             overdue: is_left && hold.pause == 0,
-            reply: 0 < self.incoming.replies.len(),
+            reply: self.incoming.has_reply(),
             message: self.taken < self.outgoing.len(),
             packet: is_left && hold.pause <= SLACK,
             transfer: self.sends_apart(hold, now),
@@ -169,7 +170,7 @@ impl Controller {
     /// A frame of the open transfer is due, and isn't the very frame that the first reply is.
     fn sends_apart(&self, hold: Hold, now: Stamp) -> bool
         ensures { result ≡ is_apart (transfer_by (port_of self.now.transfers).current (clock hold.age))
-            (slice_get (incoming_of self.now.incoming).reception.replies 0) }
+            (slice_get (replies_of (incoming_of self.now.incoming).reception) 0) }
     {
         let frame = self.transfers.frame(hold.clock(), now);
         let reply = self.incoming.frame(now);

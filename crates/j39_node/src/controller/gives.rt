@@ -86,30 +86,28 @@ impl Controller {
         Some(first)
     }
 
-    /// The message of 9 to 1,785 bytes that came in packets to its address, until `release_transfer` is called. Till then another
-    /// is refused (abort 2), so what was acknowledged lies here.
+    /// The oldest message of 9 to 1,785 bytes that came in packets to its address, until `release_transfer` is called: what was
+    /// acknowledged lies here. Till then its box isn't free for another.
     pub fn received_transfer(&self) -> Option<Message<'_>>
         ensures value { (w : Who) (H : List Call) → Is w H self.now
-            → option_map (λ m. (stamp_micros m.stamp, message_shown m)) result ≡ (reception w H).waits }
+            → option_map (λ m. (stamp_micros m.stamp, message_shown m)) result ≡ slice_get (reception w H).waits 0 }
         ensures most { IfSome result (λ m. length m.payload.now ≤ 1785) }
     {
         self.incoming.message()
     }
 
-    /// The NAME that held the source of the message that came so last, when its last packet was heard; `None` where nobody did.
+    /// The NAME that held the source of that message from its RTS to its last packet; `None` where nobody did, or none waits.
     pub fn transfer_sender(&self) -> Option<Name>
         ensures { (w : Who) (H : List Call) → Is w H self.now → option_map name_raw result ≡ transfer_sender w H }
     {
-        self.transfer_sender
+        self.incoming.sender()
     }
 
-    /// Makes room for the next message in packets; whether one lay there, which by this the program got.
+    /// Frees the box of that message, which by this the program got; whether there was one.
     pub fn release_transfer(&mut self) -> bool
         ensures { (w : Who) (H : List Call) → Is w H self.old → Is w (ReleaseTransfer result ∷ H) self.new }
     {
-        let waits = self.incoming.place.is_some();
-        self.incoming.place = None;
-        waits
+        self.incoming.release()
     }
 
     /// The oldest message of 9 to 1,785 bytes that came in packets to all, until `release_broadcast` is called. Till then its box

@@ -10,8 +10,8 @@ ghost use Rattle.j39_node.specs.Transfers.{is_replaced};
 ghost use Rattle.j39_node.specs.Hold.{lost};
 ghost use Rattle.j39_node.specs.History.Call.{At};
 ghost use Rattle.j39_node.specs.History.Act.{Hear, Tick, Again};
-ghost use Rattle.j39_node.specs.Asking.{in_session, is_coming};
-ghost use Rattle.j39_node.specs.Is.{asking_of, Is, sender_by_made, silence, port_of, hearing_of, incoming_of};
+ghost use Rattle.j39_node.specs.Asking.{is_coming};
+ghost use Rattle.j39_node.specs.Is.{asking_of, Is, silence, port_of, hearing_of, incoming_of};
 
 use crate::AskEnding;
 use crate::controller::Controller;
@@ -39,7 +39,6 @@ impl Controller {
         let request = self.desk.fresh(&self.own, request);
         self.desk.hear(&self.own, request);
         let before = self.peer();
-        let has_place = self.incoming.has_place();
         let doubled = self.own.double(heard);
         let bearing = Bearing {
             heard,
@@ -47,14 +46,12 @@ impl Controller {
             is_double: doubled.is_some(),
             is_held,
         };
-        let gone = self.incoming.hear(&mut self.holders, bearing, frame, now);
-        let transferred = self.incoming.made(has_place);
-        self.transfer_sender = self.sender_of(transferred);
+        let received = self.incoming.hear(&mut self.holders, bearing, frame, now);
         let is_replaced = is_replaced(before, self.peer());
         let time = self.incoming.clock;
-        let breaks = self.hearing.leave(gone, &self.holders, time);
+        let breaks = self.hearing.leave(received.gone, &self.holders, time);
         let broadcast = self.hearing.hear(&self.own, &self.holders, frame, time);
-        let made = transferred.or(broadcast.made);
+        let made = received.made.or(broadcast.made);
         let is_lost = self.hold.is_lost();
         let calls = self.own.calls_for_claim(is_lost, heard, frame);
         let another = self.own.is_another(is_held, frame);
@@ -98,11 +95,10 @@ impl Controller {
     /// An answer to the open request is on its way, at this time.
     pub(super) fn is_coming(&self, time: Stamp) -> bool
         ensures { result ≡ is_coming (stamp_micros time) (option_map (λ x. x.question) (asking_of self.now.asking))
-            (in_session (incoming_of self.now.incoming).reception.session)
+            (incoming_of self.now.incoming).reception.sessions
             (hearing_of self.now.hearing).listening.current }
     {
-        self.asking
-            .is_coming(self.incoming.session(), &self.hearing, time)
+        self.asking.is_coming(&self.incoming, &self.hearing, time)
     }
 
     /// How the open request ended without a word.
@@ -121,17 +117,6 @@ impl Controller {
         match self.transfers.destination() {
             Some(address) => self.holders.holder(address),
             None => None,
-        }
-    }
-
-    /// Who holds the source of the message in packets that came to its address last, if it came now.
-    fn sender_of(&self, made: Option<(u8, u32)>) -> Option<Name>
-        ensures { option_map name_raw result ≡ sender_by_made (holder_in self.now.holders)
-            made (option_map name_raw self.now.transfer_sender) }
-    {
-        match made {
-            Some((source, _)) => self.holders.holder(source),
-            None => self.transfer_sender,
         }
     }
 }

@@ -9,5 +9,5 @@ returns c = record {
   once = law.taken_rest;
   others = law.others_taken;
   none_waits = law.none_replied;
-  lost = λ w H e. let s = silent w H e in (s.session, s.replies);
+  lost = λ w H e. let s = silent w H e in (s.sessions, s.replies);
 }

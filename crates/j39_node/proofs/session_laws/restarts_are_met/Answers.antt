@@ -1,5 +1,6 @@
-use Rattle.j39_node.proofs.RestartLaws.{ends_by, left_by, means, none_restarts, unsaid}
-use Rattle.j39_node.proofs.Common.{At, Hear, Some, TakeFrame, ap, arith, called, claim_of, heard_at, holder, holds, is_smaller, known, leaves, not, reception, time_heard, ◌+◌, ◌-◌, ◌∙◌, ◌∷◌, waned, calls_whom, taken_whom, is_claim, is_message}
+use Rattle.j39_node.proofs.RestartLaws.{none_restarts}
+use Rattle.j39_node.proofs.ReceptionLaws as law_of
+use Rattle.j39_node.proofs.Common.{arith, At, called, calls_whom, claim_of, Hear, heard_at, holder, is_claim, is_message, Some, TakeFrame, taken_whom, waned, ◌+◌, ◌-◌, ◌∷◌}
 use Rattle.j39_node.proofs.HearingLaws.{none_known}
 use Rattle.j39_node.proofs.RestartLaws as law
 use Rattle.j39_node.proofs.session_laws.restarts_are_met.Goals as goal
@@ -7,10 +8,7 @@ use Rattle.j39_node.proofs.session_laws.restarts_are_met.Goals as goal
 pub returns : goal.returns
 returns c = record {
   means = law.means;
-  session = λ w H when f r e g.
-      let m = (means w H when r.message.source f).0 g in
-      ends_by w.address (is_smaller w (claim_of f)) (holds w H when) _ f (time_heard (At when (Hear f) ∷ H)) (reception w H)
-      (ap (leaves (known w H when f) (holder w (At when (Hear f) ∷ H))) e ∙ ap not (left_by w H when r.message.source f g)) (unsaid w.address f m.0 m.1);
+  session = law_of.ended_by;
   broadcast = λ w H now f a g. none_known w H now a f (law.differs w H now a f g);
   heard = λ w later H when now a b f g t n q.
       let k = waned (when - heard_at H) (called w H) in

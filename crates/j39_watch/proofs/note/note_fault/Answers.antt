@@ -2,7 +2,7 @@
 use Rattle.j39_watch.proofs.Common.{◌∷◌, ◌++◌, [], List, Hearing, hearing_of, no_filter, refl, subst}
 use Rattle.j39_fault_reports.proofs.FaultAccountLemmas.{all_in_time}
 use Rattle.j39_fault_reports.specs.CurrentSoFar.{AreKept}
-use Rattle.j39_fault_reports.specs.FaultsNow.{active_among}
+use Rattle.j39_fault_reports.specs.Spoken.{active_among}
 use Rattle.j39_watch.proofs.note.note_fault.Goals as goal
 
 pub returns-in-Ok-clause-kept : goal.returns-in-Ok-clause-kept

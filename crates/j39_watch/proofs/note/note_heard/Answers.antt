@@ -1,10 +1,10 @@
 -- A message is heard at the frame, or none; it counts as one of values, of faults, or of both.
-use Rattle.j39_watch.proofs.Common.{◌≡◌, ◌||◌, ◌∙◌, ◌++◌, ◌∷◌, [], List, None, Some, filter, first_stamp, Hearing, inl, inr, length, refl, subst, sym, flat_map, pgn_of, on_err_from, HeardAt, HeardAtWith, hearing_of, entries_of, on_ok}
+use Rattle.j39_watch.proofs.Common.{◌≡◌, ◌||◌, ◌∙◌, ◌++◌, ◌∷◌, [], List, None, Some, first_stamp, Hearing, inl, inr, length, refl, subst, sym, flat_map, pgn_of, on_err_from, HeardAt, HeardAtWith, hearing_of, entries_of, on_ok}
 use Rattle.j39_fault_reports.proofs.CurrentLemmas.{first_here}
 use Rattle.j39_fault_reports.proofs.HeardLemmas.{both_ok}
 use Rattle.j39_watch.proofs.NoteLemmas.{counted, counted_none, neither_network, notes_heard, notes_silent, of_faults, of_values}
 use Rattle.j39_fault_reports.proofs.FaultAccountLemmas.{all_in_time}
-use Rattle.j39_fault_reports.specs.FaultsNow.{active_among, is_at, lasts}
+use Rattle.j39_fault_reports.specs.Spoken.{active_among, spoken_in}
 use Rattle.j39_fault_reports.specs.News.{is_fault_group}
 use Rattle.j39_watch.proofs.note.note_heard.Goals as goal
 
@@ -49,7 +49,7 @@ returns-in-Err-note_fault-clause-asked c = λ F heard faults h are_heard are are
       is_heard = rw asked.0 at faulty;
       of_active = asked.1;
       now = refl;
-      first = subst (λ (hs : List Hearing). filter (is_at h_now.message.source) (lasts hs) ≡ []) (sym (all_in_time (first_stamp (F ++ f ∷ [])) (active_among faults)))
+      first = subst (λ (hs : List Hearing). spoken_in hs h_now.message.source ≡ []) (sym (all_in_time (first_stamp (F ++ f ∷ [])) (active_among faults)))
           (first_here [] c.args.places.now (active_among faults) _ kept c.in-Err-note_fault.ensures.fits asked.2);
     }))
 

@@ -1,6 +1,6 @@
 -- A message is heard at the frame, or none.
 use Rattle.j39_fault_reports.proofs.Common.{◌∙◌, ◌++◌, ◌∷◌, List, [], Some, ap, inr, length, sym, FrameRecord, pgn_of, first_stamp, in_time, HeardAtWith, hearing_of, Hears, on_ok, on_err_from}
-use Rattle.j39_fault_reports.specs.FaultsNow.{active_among}
+use Rattle.j39_fault_reports.specs.Spoken.{active_among}
 use Rattle.j39_fault_reports.specs.FaultsSoFar.{with_heard}
 use Rattle.j39_fault_reports.specs.News.{is_fault_group}
 use Rattle.j39_fault_reports.specs.declared.fault_news.announced.Announced.{Announced}

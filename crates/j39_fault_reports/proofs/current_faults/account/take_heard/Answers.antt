@@ -1,7 +1,7 @@
 -- A message of active codes is taken.
 use Rattle.j39_fault_reports.proofs.Common.{◌≡◌, ◌++◌, ◌∙◌, List, ap, rules, subst, sym, true, cond-true, Hearing, hearing_of, in_time}
 use Rattle.j39_fault_reports.specs.CurrentSoFar.{AreKept}
-use Rattle.j39_fault_reports.specs.FaultsNow.{is_active_message}
+use Rattle.j39_fault_reports.specs.Spoken.{is_active_message}
 use Rattle.j39_fault_reports.proofs.CurrentLemmas.{kept_more}
 use Rattle.j39_fault_reports.proofs.FaultAccountLemmas.{in_time_yes}
 use Rattle.j39_fault_reports.proofs.current_faults.account.take_heard.Goals as goal

@@ -1,5 +1,5 @@
 use Rattle.j39_fault_reports.proofs.Common.{◌∙◌, List, ap, length, refl, sym, first_stamp, Hearing, all_heard, heard_below_unique}
-use Rattle.j39_fault_reports.specs.FaultsNow.{active_among}
+use Rattle.j39_fault_reports.specs.Spoken.{active_among}
 use Rattle.j39_fault_reports.specs.FaultsNowRun.{faults_now_of}
 use Rattle.j39_fault_reports.specs.News.{is_fault_group}
 use Rattle.j39_fault_reports.proofs.FaultAccountLemmas.{faults_leave}

@@ -1,4 +1,4 @@
-use Rattle.j39_node.proofs.Common.{[], after, asking_of, lane_of, map, nothing, posted, received_by, refusal_by, request_by, rules, Who, who_of, sender_by, None}
+use Rattle.j39_node.proofs.Common.{[], after, asking_of, lane_of, map, nothing, posted, received_by, refusal_by, request_by, rules, Who, who_of, sender_by, ap, ◌∙◌, IncomingRecord, SessionsRecord}
 use Rattle.j39_node.proofs.controller.Controller.begun.Goals as goal
 
 pub returns : goal.returns
@@ -16,10 +16,9 @@ returns c =
         news = c.none.ensures i;
         missed = c.new-4.ensures.missed i;
         lane = lane_of w (c.new-7.ensures i);
-        incoming = c.new-8.ensures c.args.own.address c.requires.receiver i;
+        incoming = (c.new-8.ensures ∙ ap (λ (s : SessionsRecord). (let x : IncomingRecord = record { moment = 0; clock = 0; called = record { left = 0; whose = 0 }; reception = s } in x)) c.requires.sessions) i;
         port = c.new-9.ensures i;
         hearing = c.requires.hearing i;
-        transfer_sender = None;
         broadcast_senders = c.requires.senders i;
       };
       answered = tt;

@@ -1,4 +1,3 @@
-use Rattle.j39_node.proofs.ReceptionLaws.{made_is, sender_is}
 use Rattle.j39_node.proofs.QueueLemmas.{length_rest}
 use Rattle.j39_node.proofs.SoundLemmas.{front_length, lost_older, read, sound}
 use Rattle.j39_node.proofs.HearingLemmas.{either_news, heard_on, made_sender}
@@ -6,11 +5,11 @@ use Rattle.j39_node.specs.Boxes.{in_box}
 use Rattle.j39_node.specs.Hearing.{broadcast_senders, found, made_whole, of, sender_in, with_sender}
 use Rattle.j39_node.proofs.AskLemmas.{ask_heard}
 use Rattle.j39_node.proofs.ReceptionLemmas.{again_is, table_is}
-use Rattle.j39_node.proofs.Common.{[], if◌then◌else◌, ◌&&◌, ◌++◌, ◌||◌, ◌∙◌, ◌∷◌, ap, asking_of, AskRecord, Bool, claim_of, fresh, heard, hearing_of, hears_if, hears_with, incoming_of, is_coming, is_lost, Knows, length, lost, made_by, map, name_raw, nat_lt, not, Option, option_map, option_or, port_of, refusal_by, request_by, in_session, stamp_micros, subst, Untold, View, who_of, with_refusal, ℕ, At, Hear, Hold, IfSome, IncomingRecord, MessageRecord, Running, Who, acknowledged, address_after, age, asked, called, calls_for_claim, claimed_again, clock_at, comes, counted, delayed, double, drop, due, ended, is_any, over_by, got, handed, has_place, heard_at, hold_after, holder, holder_in, holds, incoming_after, is_another, is_double, is_for_program, is_refusal_due, is_replaced, is_smaller, is_unheard_in, made_in, source_of, kept, later, made, made_of, min, missed, missed_news, nat_eq, news_after, offered, older, open_ask, open_transfer, owes_claim, patience, port_after, reached, received_by, reception, requests, restarts, resting_by, silence, stamped, standing_of, step, sym, time_heard, told_claims, unheard_by, unheard_news, wait, whole, with_request, ◌*◌, ◌+◌, ◌-◌, ◌≡◌, sender_by, sender_by_made, transfer_sender, FrameRecord, waned}
+use Rattle.j39_node.proofs.Common.{[], if◌then◌else◌, ◌&&◌, ◌++◌, ◌||◌, ◌∙◌, ◌∷◌, ap, asking_of, AskRecord, Bool, claim_of, fresh, heard, hearing_of, hears_if, hears_with, incoming_of, is_coming, is_lost, Knows, length, lost, map, name_raw, nat_lt, not, Option, option_map, option_or, port_of, refusal_by, request_by, stamp_micros, subst, Untold, View, who_of, with_refusal, ℕ, At, Hear, Hold, IfSome, IncomingRecord, MessageRecord, Running, Who, acknowledged, address_after, age, asked, called, calls_for_claim, claimed_again, clock_at, comes, counted, delayed, double, drop, due, ended, is_any, over_by, got, handed, heard_at, hold_after, holder, holder_in, holds, incoming_after, is_another, is_double, is_for_program, is_refusal_due, is_replaced, is_smaller, is_unheard_in, made_in, source_of, kept, later, made, made_of, min, missed, missed_news, nat_eq, news_after, offered, older, open_ask, open_transfer, owes_claim, patience, port_after, reached, received_by, requests, restarts, resting_by, silence, stamped, standing_of, step, sym, time_heard, told_claims, unheard_by, unheard_news, wait, whole, with_request, ◌*◌, ◌+◌, ◌-◌, ◌≡◌, sender_by, FrameRecord, waned}
 use Rattle.j39_node.specs.Is.{hearing_it}
 use Rattle.std.specs.Option.{is_some}
 use Rattle.j39_node.proofs.PortLemmas.{peers_are, clock_is, is_port, ported, replaced_is}
-use Rattle.j39_node.proofs.CallLemmas.{passed_is, news_heard, coming_is, heard_standing, holds_is, incoming_heard, kept_rest, senders_rest, lost_is, missed_rest, refusal_rest, request_rest}
+use Rattle.j39_node.proofs.CallLemmas.{passed_is, news_heard, coming_is, heard_standing, holds_is, incoming_heard, made_heard, kept_rest, senders_rest, lost_is, missed_rest, refusal_rest, request_rest}
 use Rattle.j39_node.proofs.controller.Controller.hear.Goals as goal
 
 pub returns : goal.returns
@@ -38,10 +37,10 @@ returns c = λ w H h.
     c.calls_for_claim-calls.ensures c.of-heard.ensures ∙ (ap (λ (u : View). calls_for_claim u.who c.is_lost-is_lost.result f) h.shown ∙ ap (λ (b : Bool). calls_for_claim w b f) lost_before) in
     let others : c.is_another-another.result ≡ is_another w (holds w H t) f =
     c.is_another-another.ensures ∙ (ap (λ (u : View). is_another u.who c.is_held-is_held.result f) h.shown ∙ ap (λ (b : Bool). is_another w b f) (holds_is w H t c.passed-self.result c.is_held-is_held.result p c.is_held-is_held.ensures)) in
-    let knows : Knows c.hear-gone.new.holders (told_claims w (At t (Hear f) ∷ H)) =
-    subst (λ (u : View). Knows c.hear-gone.new.holders (if is_double u.who (claim_of f) then told_claims w H else told_claims w H ++ f ∷ [])) h.shown
-    (subst (λ (b : Bool). Knows c.hear-gone.new.holders (if b then told_claims w H else told_claims w H ++ f ∷ []))
-    (c.is_some.ensures ∙ ap is_some (c.double-doubled.ensures ∙ ap (double (who_of w.brought c.args.self.now.own)) claim_is)) (c.hear-gone.ensures.knows (told_claims w H) h.holders)) in
+    let knows : Knows c.hear-received.new.holders (told_claims w (At t (Hear f) ∷ H)) =
+    subst (λ (u : View). Knows c.hear-received.new.holders (if is_double u.who (claim_of f) then told_claims w H else told_claims w H ++ f ∷ [])) h.shown
+    (subst (λ (b : Bool). Knows c.hear-received.new.holders (if b then told_claims w H else told_claims w H ++ f ∷ []))
+    (c.is_some.ensures ∙ ap is_some (c.double-doubled.ensures ∙ ap (double (who_of w.brought c.args.self.now.own)) claim_is)) (c.hear-received.ensures.knows (told_claims w H) h.holders)) in
     let r : ℕ → Bool = λ a. is_replaced (holder w H a) (holder w (At t (Hear f) ∷ H) a) in
     let current : (port_of c.args.self.now.transfers).current ≡ open_transfer w H = ap (λ (v : View). v.port.current) h.shown in
     let hold_now : c.heard-self-2.result ≡ hold_after w (At t (Hear f) ∷ H) =
@@ -54,28 +53,27 @@ returns c = λ w H h.
           else delayed w H - step H t;
     }) in
     let stands_now : c.heard-self-2.result.standing ≡ standing_of (address_after w (At t (Hear f) ∷ H)) = ap (λ (k : Hold). k.standing) hold_now in
-    let hears_in : incoming_of c.hear-gone.new.self ≡ incoming_after w (At t (Hear f) ∷ H) =
-    incoming_heard w H c.args.self.now t f c.hear-gone.new.holders c.hear-gone.new.self c.is_driven_away.result c.is_held-is_held.result h knows goes (holds_is w H t c.passed-self.result c.is_held-is_held.result p c.is_held-is_held.ensures) c.hear-gone.ensures.heard in
-    let gone_is : c.hear-gone.result ≡ restarts w H t f =
-    c.hear-gone.ensures.restarted ∙ (ap (λ (v : View). claimed_again (holder_in c.args.self.now.holders) (waned (t - v.incoming.moment) v.incoming.called) (claim_of f)) h.shown
+    let hears_in : incoming_of c.hear-received.new.self ≡ incoming_after w (At t (Hear f) ∷ H) =
+    incoming_heard w H c.args.self.now t f c.hear-received.new.holders c.hear-received.new.self c.is_driven_away.result c.is_held-is_held.result h knows goes (holds_is w H t c.passed-self.result c.is_held-is_held.result p c.is_held-is_held.ensures) c.hear-received.ensures.heard in
+    let gone_is : c.hear-received.result.gone ≡ restarts w H t f =
+    c.hear-received.ensures.restarted ∙ (ap (λ (v : View). claimed_again (holder_in c.args.self.now.holders) (waned (t - v.incoming.moment) v.incoming.called) (claim_of f)) h.shown
     ∙ again_is w c.args.self.now.holders H (waned (t - heard_at H) (called w H)) (claim_of f) h.holders) in
-    let on = heard_on w H t f c.hear-gone.new.holders c.hear-gone.result (stamp_micros c.hear-gone.new.self.clock) c.leave-breaks.result c.hear-broadcast.result.is_missed c.hear-broadcast.result.made
+    let on = heard_on w H t f c.hear-received.new.holders c.hear-received.result.gone (stamp_micros c.hear-received.new.self.clock) c.leave-breaks.result c.hear-broadcast.result.is_missed c.hear-broadcast.result.made
     (hearing_of c.args.self.now.hearing) (hearing_of c.leave-breaks.new.self) (hearing_of c.hear-broadcast.new.self) (ap (λ (v : View). v.hearing) h.shown) knows (ap (λ (x : IncomingRecord). x.clock) hears_in) gone_is
     c.leave-breaks.ensures.broken c.leave-breaks.ensures.left
     (c.hear-broadcast.ensures.missed ∙ ap (λ (u : View). is_unheard_in (hearing_of c.leave-breaks.new.self).boxes u.who f (hearing_of c.leave-breaks.new.self).listening) h.shown)
-    (λ apart fits. c.hear-broadcast.ensures.made apart fits ∙ ap (λ (u : View). made_of (option_map (λ (p : ℕ × MessageRecord). p.1) (made_in (hearing_of c.leave-breaks.new.self).boxes u.who (holder_in c.hear-gone.new.holders (source_of f.id)) (stamp_micros c.hear-gone.new.self.clock) f (hearing_of c.leave-breaks.new.self).listening))) h.shown)
-    (λ apart fits. c.hear-broadcast.ensures.heard apart fits ∙ ap (λ (u : View). hearing_it u.who (holder_in c.hear-gone.new.holders (source_of f.id)) (stamp_micros c.hear-gone.new.self.clock) f (hearing_of c.leave-breaks.new.self)) h.shown) in
-    let whole_is : c.made-transferred.result ≡ made_of (whole w H t f) =
-    (c.made-transferred.ensures ∙ ap (λ (b : Bool). made_by b (incoming_of c.hear-gone.new.self).reception.waits) c.has_place-has_place.ensures) ∙ (ap (λ (v : View). made_by (has_place v.incoming.reception.waits) (incoming_of c.hear-gone.new.self).reception.waits) h.shown
-    ∙ (ap (λ (x : IncomingRecord). made_by (has_place (reception w H).waits) x.reception.waits) hears_in ∙ made_is w H t f)) in
+    (λ apart fits. c.hear-broadcast.ensures.made apart fits ∙ ap (λ (u : View). made_of (option_map (λ (p : ℕ × MessageRecord). p.1) (made_in (hearing_of c.leave-breaks.new.self).boxes u.who (holder_in c.hear-received.new.holders (source_of f.id)) (stamp_micros c.hear-received.new.self.clock) f (hearing_of c.leave-breaks.new.self).listening))) h.shown)
+    (λ apart fits. c.hear-broadcast.ensures.heard apart fits ∙ ap (λ (u : View). hearing_it u.who (holder_in c.hear-received.new.holders (source_of f.id)) (stamp_micros c.hear-received.new.self.clock) f (hearing_of c.leave-breaks.new.self)) h.shown) in
+    let whole_is : c.hear-received.result.made ≡ made_of (whole w H t f) =
+    made_heard w H c.args.self.now t f c.hear-received.new.holders c.hear-received.result.made c.is_driven_away.result c.is_held-is_held.result h knows goes (holds_is w H t c.passed-self.result c.is_held-is_held.result p c.is_held-is_held.ensures) c.hear-received.ensures.made in
     let lost_now = is_lost (address_after w (At t (Hear f) ∷ H)) in
     let comes_now = comes w H (time_heard (At t (Hear f) ∷ H)) in
     let silent_is : c.silence-silence.result ≡ silence (wait H - step H t) comes_now lost_now (asking_of c.args.self.now.asking) =
     c.silence-silence.ensures ∙ λ i. silence (hold_now i).wait
-    (((c.is_coming-is_coming.ensures ∙ ap (λ (n : ℕ). is_coming n (option_map (λ (x : AskRecord). x.question) (asking_of c.args.self.now.asking)) (in_session (incoming_of c.args.self.now.incoming).reception.session) (hearing_of c.args.self.now.hearing).listening.current) c.clock_at.ensures) ∙ coming_is w H c.args.self.now (later (incoming_of c.args.self.now.incoming).clock (t - (incoming_of c.args.self.now.incoming).moment)) (time_heard (At t (Hear f) ∷ H)) h
+    (((c.is_coming-is_coming.ensures ∙ ap (λ (n : ℕ). is_coming n (option_map (λ (x : AskRecord). x.question) (asking_of c.args.self.now.asking)) (incoming_of c.args.self.now.incoming).reception.sessions (hearing_of c.args.self.now.hearing).listening.current) c.clock_at.ensures) ∙ coming_is w H c.args.self.now (later (incoming_of c.args.self.now.incoming).clock (t - (incoming_of c.args.self.now.incoming).moment)) (time_heard (At t (Hear f) ∷ H)) h
     (ap (λ (v : View). later v.incoming.clock (t - v.incoming.moment)) h.shown)) i)
     ((ap lost stands_now ∙ lost_is (address_after w (At t (Hear f) ∷ H))) i) (asking_of c.args.self.now.asking) in
-    let made_now : option_or c.made-transferred.result c.hear-broadcast.result.made ≡ made w H t f =
+    let made_now : option_or c.hear-received.result.made c.hear-broadcast.result.made ≡ made w H t f =
     ap (λ (y : Option (ℕ × ℕ)). option_or y c.hear-broadcast.result.made) whole_is ∙ ap (option_or (made_of (whole w H t f))) on.made in
     let asked_now = fresh w (drop (length (handed H)) (requests w H)) (asked w (holds w H t) f) in
     let unread_now : length c.args.self.now.inbox.unread.items ≡ length (kept w H) - length (got H) = length_rest received_by c.args.self.now.inbox.unread.items (length (got H)) (kept w H) (ap (λ (v : View). v.unread) h.shown) in
@@ -84,8 +82,8 @@ returns c = λ w H h.
     (c.hear-2.ensures.current r
     (subst (λ (y : Option Running). IfSome y (λ x. c.is_replaced-is_replaced.result ≡ is_replaced (holder w H x.sender.destination) (holder w (At t (Hear f) ∷ H) x.sender.destination)))
     (sym current)
-    (replaced_is w H t f c.args.self.now.holders c.hear-gone.new.holders c.is_replaced-is_replaced.result (open_transfer w H) (ported w H h.answered) h.holders knows
-    (subst (λ (y : Option Running). IfSome y (λ x. c.is_replaced-is_replaced.result ≡ is_replaced (holder_in c.args.self.now.holders x.sender.destination) (holder_in c.hear-gone.new.holders x.sender.destination))) current (peers_are (port_of c.args.self.now.transfers).current c.is_replaced-is_replaced.result (option_map name_raw c.peer-before.result) (option_map name_raw c.peer.result) c.args.self.now.holders _ c.peer-before.ensures c.peer.ensures c.is_replaced-is_replaced.ensures))))
+    (replaced_is w H t f c.args.self.now.holders c.hear-received.new.holders c.is_replaced-is_replaced.result (open_transfer w H) (ported w H h.answered) h.holders knows
+    (subst (λ (y : Option Running). IfSome y (λ x. c.is_replaced-is_replaced.result ≡ is_replaced (holder_in c.args.self.now.holders x.sender.destination) (holder_in c.hear-received.new.holders x.sender.destination))) current (peers_are (port_of c.args.self.now.transfers).current c.is_replaced-is_replaced.result (option_map name_raw c.peer-before.result) (option_map name_raw c.peer.result) c.args.self.now.holders _ c.peer-before.ensures c.peer.ensures c.is_replaced-is_replaced.ensures))))
     ∙ ((ap (λ (b : Bool). hears_if b r f (stamp_micros c.clock.result) (port_of c.args.self.now.transfers).current) c.is_lost.ensures ∙ ap (λ (n : ℕ). hears_if (lost c.heard-self-2.result.standing) r f n (port_of c.args.self.now.transfers).current) c.clock.ensures)
     ∙ (ap (λ (b : Bool). hears_if b r f (min c.heard-self-2.result.age 9999999999999999) (port_of c.args.self.now.transfers).current)
     (ap lost stands_now ∙ lost_is (address_after w (At t (Hear f) ∷ H)))
@@ -139,8 +137,6 @@ returns c = λ w H h.
             ((ap (λ v. map (λ b. (in_box b).name) v.items) c.leave-breaks.ensures.whole ∙ ap (λ (v : View). v.broadcast_senders) h.shown) i))
             ∙ made_sender (made_whole w H t f) (sender_in (found w H t f (source_of f.id))) (broadcast_senders w H))) i;
         port = port_now i;
-        transfer_sender = (c.sender_of-self.ensures ∙ ((λ i. sender_by_made (holder_in c.hear-gone.new.holders) (whole_is i) ((h.shown i).transfer_sender))
-            ∙ sender_is w (At t (Hear f) ∷ H) c.hear-gone.new.holders (whole w H t f) (transfer_sender w H) knows)) i;
       };
       answered = (h.answered, tt);
       holders = knows;

@@ -1,6 +1,6 @@
 use Rattle.j39_node.proofs.Common.{◌+◌, ◌-◌, ◌∙◌, acknowledged, ap, due, false, IncomingRecord, length, refl, refusal_by, Some, stamp_micros, sym, true, View, with_called, called_for}
 use Rattle.j39_node.proofs.QueueLemmas.{first}
-use Rattle.j39_node.proofs.CallLemmas.{due_there, gives_is, goes_is, none_acknowledged, one_acknowledged, passed_is, holds_is, taken_due, claims_more}
+use Rattle.j39_node.proofs.CallLemmas.{due_there, gives_is, follows, goes_is, none_acknowledged, peeks_none, one_acknowledged, passed_is, holds_is, taken_due, claims_more}
 use Rattle.j39_node.proofs.controller.Controller.take_frame.Goals as goal
 
 pub returns-then-is_acknowledgment_due : goal.returns-then-is_acknowledgment_due
@@ -34,3 +34,11 @@ returns c = λ w H h.
       held = sym (holds_is w H (stamp_micros c.args.now) c.passed-hold.result c.is_held.result p c.is_held.ensures) ∙ c.if-not-is_held.false;
       none = none_acknowledged w H c.args.self.now (stamp_micros c.args.now) c.gives_way-gives_way.result h g (sym c.is_acknowledgment_due.ensures ∙ c.if-is_acknowledgment_due.false);
     })
+
+pub returns-then-not-is_held : goal.returns-then-not-is_held
+returns-then-not-is_held c = λ w H h.
+    let p = passed_is w H (stamp_micros c.args.now) c.args.self.now.hold c.passed-hold.result (ap (λ (v : View). v.hold) h.shown) c.passed-hold.ensures in
+    let g = gives_is w H c.args.self.now (stamp_micros c.args.now) c.passed-hold.result c.gives_way-gives_way.result h p c.gives_way-gives_way.ensures in
+    follows h refl (peeks_none w H c.args.self.now (stamp_micros c.args.now) h
+    (goes_is w H (stamp_micros c.args.now) c.passed-hold.result c.gives_way-gives_way.result false p g (sym c.claims.ensures ∙ c.if-claims.false))
+    (sym (holds_is w H (stamp_micros c.args.now) c.passed-hold.result c.is_held.result p c.is_held.ensures) ∙ c.if-not-is_held.true)) refl (λ i. record (h.shown i) { hold = p i })

@@ -1,6 +1,6 @@
-use Rattle.j39_node.proofs.Common.{◌+◌, ◌∙◌, ◌∷◌, ◌≡◌, ap, At, FrameRecord, Is, is_blank, map, Option, option_map, past, port_of, posted, reception, refl, said_by, sends_if, Some, stamp_micros, subst, suc, sym, TakeFrame, transfer_by, true, View, ℕ}
-use Rattle.j39_node.proofs.QueueLemmas.{read, read_none, first}
-use Rattle.j39_node.proofs.CallLemmas.{move_goes, packet_goes, reply_there, single_there, taken, taken_none, taken_packet, taken_reply, replies_is, taken_transfer}
+use Rattle.j39_node.proofs.Common.{◌+◌, ◌∙◌, ◌∷◌, ◌≡◌, ap, At, FrameRecord, Is, is_blank, map, Option, option_map, past, port_of, posted, refl, sends_if, Some, stamp_micros, subst, suc, sym, TakeFrame, transfer_by, true, ℕ}
+use Rattle.j39_node.proofs.QueueLemmas.{read, read_none}
+use Rattle.j39_node.proofs.CallLemmas.{move_goes, packet_goes, single_there, taken, taken_none, taken_packet, taken_reply, taken_transfer}
 use Rattle.j39_node.proofs.FrameLemmas.{at_now}
 use Rattle.j39_node.proofs.controller.Controller.take_other.Goals as goal
 
@@ -13,10 +13,7 @@ returns-in_err-turn c = λ w H h o.
 pub returns-in-Reply : goal.returns-in-Reply
 returns-in-Reply c = λ w H h o.
     let t = sym c.turn.ensures ∙ (c.in_ok-turn.was ∙ ap Some c.in-Reply.is) in
-    let f = first (said_by c.args.self.now.incoming.receiver.state.own) _ _ c.remove.result 0 (reception w H).replies (replies_is w H c.args.self.now h)
-    (reply_there c.args.self.now c.args.hold t) c.remove.ensures.value c.remove.ensures.items in
-    taken_reply w H c.args.self.now _ (stamp_micros c.args.now) _ c.remove.result c.args.hold h o t f
-    (c.frame.ensures ∙ ap (λ (u : View). Some (stamp_micros c.args.now, said_by u.who.address c.remove.result)) h.shown) refl refl c.spoken-self.ensures
+    taken_reply w H c.args.self.now _ (stamp_micros c.args.now) _ c.args.hold h o t c.take_frame.ensures.frame c.take_frame.ensures.taken refl c.spoken-self.ensures
 
 pub returns-in_ok-next-in-Single : goal.returns-in_ok-next-in-Single
 returns-in_ok-next-in-Single c = λ w H h o.

@@ -1,5 +1,5 @@
 -- The frame was heard, what it ended and made whole was noted, and all else was taken.
-use Rattle.std.proofs.Common.{◌≡◌, ◌++◌, ◌∷◌, ◌∙◌, ℕ, ap, map, refl, subst}
+use Rattle.std.proofs.Common.{◌≡◌, ◌++◌, ◌∷◌, ◌∙◌, ℕ, ap, map, refl, slice_get, subst}
 use Rattle.j39_frame.specs.Frame.{FrameRecord}
 use Rattle.j39_frame.specs.Stamp.{stamp_micros}
 use Rattle.j39_node.specs.Is.{Is}
@@ -39,6 +39,6 @@ returns-clause-noted c = λ w H is.
     record {
       delivered = ap (λ v. map told_by v.items) c.withdraw.ensures.deliveries
           ∙ (c.in_ok-deliver.ensures.delivered w (TakeTransferEnded ended.0 ∷ K) settled
-          ∙ ap (λ v. map told_by v.items ++ listed (reception w K).waits) c.settle.ensures.deliveries);
+          ∙ ap (λ v. map told_by v.items ++ listed (slice_get (reception w K).waits 0)) c.settle.ensures.deliveries);
       done = ap (λ v. v.items) (c.withdraw.ensures.done ∙ c.deliver.ensures.done) ∙ c.in_ok-settle.ensures.done w K heard;
     }

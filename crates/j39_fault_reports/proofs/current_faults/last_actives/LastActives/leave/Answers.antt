@@ -1,18 +1,32 @@
--- A place more is left.
-use Rattle.std.proofs.Common.{◌∙◌, ◌+◌, ap, arith, option_map, slice_set, subst, sym}
+-- What is kept at a place more is taken out, or stays.
+use Rattle.std.proofs.Common.{◌∙◌, ◌+◌, ap, arith, option_map, subst, sym}
 use Rattle.j39_address.specs.Name.{name_raw}
-use Rattle.j39_fault_reports.specs.CurrentPlaces.{AreLeft, LastActives, left_by, stored_in}
-use Rattle.j39_fault_reports.proofs.NowPlaceLemmas.{none_left, one_left}
+use Rattle.j39_fault_reports.specs.CurrentPlaces.{name_in, stored_in}
+use Rattle.j39_fault_reports.specs.Places.{AreLeft}
+use Rattle.j39_fault_reports.proofs.MoveLemmas.{else_kept, none_kept, none_left, one_left, one_stays, out_kept}
+use Rattle.j39_fault_reports.proofs.current_faults.last_actives.LastActives.leave.Goals.{else-is_of, then-is_of}
 use Rattle.j39_fault_reports.proofs.current_faults.last_actives.LastActives.leave.Goals as goal
 
 pub loop-address-init : goal.loop-address-init
-loop-address-init c = λ long. none_left (option_map name_raw c.args.name) c.args.self.now
+loop-address-init c = λ long. (none_left name_in (option_map name_raw c.args.name) c.args.self.now, sym (none_kept name_in (option_map name_raw c.args.name) c.args.self.now))
 
 pub loop-address-preserved : goal.loop-address-preserved
 loop-address-preserved c = λ long.
     let name = option_map name_raw c.args.name in
+    let old = c.args.self.now in
     let at = c.loop-address.address in
+    let places = c.loop-address.self in
     let below = c.loop-address-test.true in
-    subst (AreLeft name c.args.self.now (at + 1)) (sym (c.put.ensures ∙ ap (λ (t : LastActives). slice_set t at (stored_in c.left.result)) c.take_out-last.ensures.after))
-    (one_left name c.args.self.now at c.loop-address.self (stored_in c.left.result) (omega (arith, below, long)) (c.loop-address.invariant long)
-    (c.left.ensures ∙ ap (left_by name) c.take_out-last.ensures.value))
+    let before = c.loop-address.invariant long in
+    elim c.if-is_of.branch [
+      | then-is_of w ↦
+          let is = sym c.is_of.ensures ∙ w.if-is_of.true in (
+            subst (AreLeft name_in name old (at + 1)) (sym (w.self-is ∙ w.take_out-found.ensures.after)) (one_left name_in name old at places (omega (arith, below, long)) before.0 is),
+            ap stored_in w.found-is ∙ w.take_out-found.ensures.value ∙ out_kept name_in name old at places before.0 is,
+          )
+      | else-is_of w ↦
+          let isnt = sym c.is_of.ensures ∙ w.if-is_of.false in (
+            subst (AreLeft name_in name old (at + 1)) (sym w.self-is) (one_stays name_in name old at places before.0 isnt),
+            ap stored_in w.found-is ∙ before.1 ∙ else_kept name_in name old at places before.0 isnt,
+          )
+    ]

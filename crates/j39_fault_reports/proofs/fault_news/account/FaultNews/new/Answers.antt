@@ -14,7 +14,7 @@ returns c = record {
   are_heard = refl;
   output_is = refl;
   hears = c.new-2.ensures;
-  remembers = c.new-3.ensures;
+  remembers = c.new-3.ensures c.args.choice.telling;
   made_is = same_made _ _ c.default.ensures.0 c.default.ensures.1 ∙ none_made c.args.writing.form (manner_of c.args.writing) (chosen_of c.args.choice);
   announced_is = same_announced _ _ c.default-2.ensures.0 c.default-2.ensures.1;
 }

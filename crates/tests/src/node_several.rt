@@ -1,0 +1,135 @@
+//! Messages in packets to a controller from several sources at once: as many as it has boxes, so many packets granted at once.
+use crate::setup::setup;
+use j39_frame::{Frame, Id, Pgn, Stamp};
+use j39_node::{Controller, Setup};
+use std::alloc::Global;
+use std::test::Fail;
+
+/// The groups of a session: its control, and its packets.
+const CONTROL: u32 = 60_416;
+
+const DATA: u32 = 60_160;
+
+/// An RTS of 18 bytes of group 65260, in three packets, of which it takes all at once.
+const REQUEST: [u8; 8] = [16, 18, 0, 3, 255, 0xEC, 0xFE, 0];
+
+/// A frame of a session from this source to address 128.
+fn of_session(source: u8, group: u32, bytes: &[u8; 8]) -> Option<Frame> {
+    let group = Pgn::new(group)?;
+    let id = Id::compose(7, group, 128, source)?;
+    Frame::new(Stamp::new(0)?, id, bytes)
+}
+
+/// A packet of this number.
+fn packet(source: u8, number: u8) -> Option<Frame> {
+    of_session(
+        source,
+        DATA,
+        &[number, source, source, source, source, source, source, source],
+    )
+}
+
+/// How many of the frames that are due begin with these two bytes.
+fn said(node: &mut Controller, now: Stamp, kind: u8, second: u8) -> u64 {
+    let mut count = 0u64;
+    for _ in 0..40 {
+        if let Some(frame) = node.take_frame(now) {
+            let bytes = frame.bytes.as_slice();
+            if bytes.get(0) == Some(&kind) && bytes.get(1) == Some(&second) {
+                count = count.saturating_add(1);
+            }
+        }
+    }
+    count
+}
+
+/// What becomes of 18 bytes of each of so many sources at once: how many are refused for want of a box, and received.
+fn fates(node: &mut Controller, sources: u8) -> Option<(u64, u64)> {
+    let _claim = node.take_frame(Stamp::new(0)?);
+    let now = Stamp::new(1_000_000)?;
+    for source in 0..sources {
+        let request = of_session(source, CONTROL, &REQUEST)?;
+        node.hear(&request, now);
+    }
+    let refused = said(node, now, 255, 2);
+    for number in 1..4u8 {
+        for source in 0..sources {
+            let data = packet(source, number)?;
+            node.hear(&data, now);
+        }
+    }
+    let mut received = 0u64;
+    for _ in 0..sources {
+        if node.release_transfer() {
+            received = received.saturating_add(1);
+        }
+    }
+    Some((refused, received))
+}
+
+/// The same of a controller of so many boxes.
+fn fates_in(alloc: Global, boxes: u8, sources: u8) -> Result<(u64, u64), Fail> {
+    let wanted = Setup {
+        sessions: boxes,
+        ..setup(2, 128, &[])
+    };
+    let mut node = Controller::new(alloc, &wanted)?.ok_or("node")?;
+    let found = fates(&mut node, sources).ok_or("a step")?;
+    Ok(found)
+}
+
+#[test]
+fn node_receives_as_many_at_once_as_it_has_boxes(rt: HostRuntime) -> Result<(), Fail> {
+    let ten = fates_in(rt.alloc(), 10, 10)?;
+    let fifteen = fates_in(rt.alloc(), 15, 15)?;
+    assert_eq!(rt; ten, (0, 10));
+    assert_eq!(rt; fifteen, (0, 15));
+    Ok(())
+}
+
+#[test]
+fn node_refuses_who_finds_no_box(rt: HostRuntime) -> Result<(), Fail> {
+    let three = fates_in(rt.alloc(), 3, 10)?;
+    let none = fates_in(rt.alloc(), 0, 1)?;
+    assert_eq!(rt; three, (7, 3));
+    assert_eq!(rt; none, (1, 0));
+    Ok(())
+}
+
+/// How many CTS grant two packets, of three, and then one, to who takes so many at once.
+fn granted(node: &mut Controller, most: u8) -> Option<(u64, u64)> {
+    let _claim = node.take_frame(Stamp::new(0)?);
+    let now = Stamp::new(1_000_000)?;
+    let bytes = [16, 18, 0, 3, most, 0xEC, 0xFE, 0];
+    let request = of_session(11, CONTROL, &bytes)?;
+    node.hear(&request, now);
+    let first = said(node, now, 17, 2);
+    for number in 1..3u8 {
+        let data = packet(11, number)?;
+        node.hear(&data, now);
+    }
+    let second = said(node, now, 17, 1);
+    Some((first, second))
+}
+
+/// The same of a controller of this window.
+fn granted_in(alloc: Global, window: u8, most: u8) -> Result<(u64, u64), Fail> {
+    let wanted = Setup {
+        window,
+        ..setup(2, 128, &[])
+    };
+    let mut node = Controller::new(alloc, &wanted)?.ok_or("node")?;
+    let found = granted(&mut node, most).ok_or("a step")?;
+    Ok(found)
+}
+
+#[test]
+fn node_grants_at_most_its_window_and_what_is_asked(rt: HostRuntime) -> Result<(), Fail> {
+    let its_window = granted_in(rt.alloc(), 2, 255)?;
+    let as_asked = granted_in(rt.alloc(), 0, 2)?;
+    let the_least = granted_in(rt.alloc(), 16, 2)?;
+    assert_eq!(rt; its_window, (1, 1));
+    assert_eq!(rt; as_asked, (1, 1));
+    assert_eq!(rt; the_least, (1, 1));
+    Ok(())
+}
