@@ -32,6 +32,7 @@ mod node_hears;
 mod node_receives;
 #[cfg(test)]
 mod node_session;
+#[cfg(test)]
 mod node_several;
 #[cfg(test)]
 mod node_stranger;

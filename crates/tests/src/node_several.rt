@@ -25,7 +25,9 @@ fn packet(source: u8, number: u8) -> Option<Frame> {
     of_session(
         source,
         DATA,
-        &[number, source, source, source, source, source, source, source],
+        &[
+            number, source, source, source, source, source, source, source,
+        ],
     )
 }
 
