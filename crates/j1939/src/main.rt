@@ -55,7 +55,8 @@ fn fault_of(rt: &HostRuntime, error: &io::Error) -> ParseFault
     if error.kind() == ErrorKind::OutOfMemory {
         return ParseFault::Memory;
     }
-    match String::from_str(rt.alloc(), "error: a word is not UTF-8\n") {
+    let text = "error: a word is not UTF-8; a log of such a name is read by < FILE\n";
+    match String::from_str(rt.alloc(), text) {
         Ok(text) => ParseFault::Usage(text),
         Err(_) => ParseFault::Memory,
     }

@@ -1,9 +1,12 @@
 -- What is remembered of the sides of values.
-use Rattle.std.specs.Prelude.{◌≡◌, ◌<◌, ◌≤◌, ℕ, List, Option, None, drop, slice_index_or, true}
+use Rattle.core.specs.Str.{bytes_eq}
+use Rattle.std.specs.Borrow.{Bor}
+use Rattle.std.specs.Prelude.{◌≡◌, ◌<◌, ◌≤◌, ◌==◌, ◌&&◌, ℕ, Bool, List, Option, None, Some, drop, if◌then◌else◌, not, slice_index_or, true}
 use Rattle.j39_groups.specs.Names.{group_name_in, name_in, state_in}
 use Rattle.j39_groups.specs.Row.{RowRecord}
 use Rattle.j39_groups.specs.Value.{ValueRecord}
 use Rattle.j39_reports.specs.declared.sides.GroupSide.{GroupSide}
+use Rattle.j39_reports.specs.declared.sides.Missed.{Missed}
 use Rattle.j39_reports.specs.declared.sides.Sides.{Sides}
 
 -- these are the sides of the values of their parameter by this table, none of whose states has a name
@@ -19,6 +22,17 @@ pub record Suits (before : ℕ → Option (List ℕ) → List ℕ) (behind : Lis
 abbrev pub AreKnown : (ℕ → Option (List ℕ) → List ℕ) → (List ℕ → List ℕ) → List RowRecord → List Sides → Type 0
 AreKnown before behind groups all = (place : ℕ) (d : Sides) → place < 256 → (slice_index_or all place d).is_ready ≡ true
     → Suits before behind groups (slice_index_or all place d)
+
+-- the sides of a parameter of a group can be learned here: its place is free, or has them for another unit
+abbrev pub is_open_to : Sides → ℕ → ℕ → List ℕ → Bool
+is_open_to sides pgn spn unit =
+    if sides.is_ready && (sides.spn == spn) && (sides.pgn == pgn) then not (bytes_eq (drop sides.unit_from sides.unit) unit)
+    else (sides.pgn == 4294967295)
+
+-- what is missed where these sides stand in the parameter's place
+abbrev pub missed_by : Sides → ℕ → ℕ → Bor (List ℕ) → Option Missed
+missed_by sides pgn spn unit =
+    if is_open_to sides pgn spn unit.now then Some (record { spn = spn; unit = unit }) else None
 
 -- this is said of its group by this table
 pub record SuitsGroup (of_group : ℕ → Option (List ℕ) → List ℕ) (groups : List RowRecord) (side : GroupSide) : Type 0 where

@@ -3,7 +3,7 @@
 ghost use Rattle.std.specs.Prelude.{◌≡◌, ◌<◌, ◌≤◌, ℕ, List, Option, IfSome, Some, false, option_map, slice_index_or, true};
 ghost use Rattle.std.proofs.Props.{props};
 ghost use Rattle.j39_io.specs.Backwards.{WritesBefore};
-ghost use Rattle.j39_reports.specs.SidesSoFar.{AreKnown, AreKnownGroups, Suits, SuitsGroup};
+ghost use Rattle.j39_reports.specs.SidesSoFar.{AreKnown, AreKnownGroups, Suits, SuitsGroup, is_open_to, missed_by};
 
 use j39_frame::Pgn;
 use j39_groups::Groups;
@@ -140,6 +140,18 @@ impl Sides {
         }
     }
 
+    /// Whether what stands on the sides of a parameter of a group can be learned here: this place is free, or has them for
+    /// another unit.
+    fn is_open_to(&self, pgn: u32, spn: u32, unit: &[u8]) -> bool
+        ensures { result ≡ is_open_to self.now pgn spn unit.now }
+    {
+        if self.is_ready && self.spn == spn && self.pgn == pgn {
+            self.unit.get(self.unit_from..) != Some(unit)
+        } else {
+            self.pgn == u32::MAX
+        }
+    }
+
     /// Those of a parameter of a group, for values of this unit; `None` where they are long, or don't stand as they are, or the
     /// parameter's row names states.
     fn of<F: SideForm>(groups: &Groups<'_>, pgn: u32, spn: u32, unit: &[u8]) -> Option<Sides>
@@ -258,13 +270,11 @@ impl<'g, 't, F: SideForm> KnownSides<'g, 't, F> {
 
     /// What can be learned of a parameter of a group: nothing where another holds its place, or it has no sides, or they are of
     /// this unit.
-    pub fn missed(&self, pgn: u32, spn: u32, unit: &'t [u8]) -> Option<Missed<'t>> {
-        let held = self.known[place_of(pgn, spn)];
-        let is_open = match self.of(pgn, spn) {
-            Some(sides) => unit != &sides.unit[sides.unit_from..],
-            None => held.pgn == u32::MAX,
-        };
-        if is_open {
+    pub fn missed(&self, pgn: u32, spn: u32, unit: &'t [u8]) -> Option<Missed<'t>>
+        ensures { (place : ℕ) × (place < 256) × ((d : Sides)
+            → result ≡ missed_by (slice_index_or self.now.known place d) pgn spn unit) }
+    {
+        if self.known[place_of(pgn, spn)].is_open_to(pgn, spn, unit) {
             Some(Missed { spn, unit })
         } else {
             None

@@ -1,6 +1,6 @@
 //! What the objects of a message begin with, written backwards.
 ghost use Rattle.j39_rows.specs.Members.{address_string, name_string, or_null};
-ghost use Rattle.std.specs.Prelude.{◌≡◌, ◌+◌, ◌≤◌, ◌++◌, drop, length};
+ghost use Rattle.std.specs.Prelude.{◌≡◌, ◌+◌, ◌≤◌, ◌++◌, drop, false, length};
 ghost use Rattle.std.specs.Option.{option_map};
 ghost use Rattle.j39_address.specs.Name.{name_raw};
 ghost use Rattle.j39_io.specs.Backwards.{WritesBefore};
@@ -31,7 +31,10 @@ pub(crate) struct ObjectHead {
 
 impl ObjectHead {
     /// With nothing.
-    pub fn new() -> ObjectHead {
+    pub fn new() -> ObjectHead
+        ensures empty { result.from ≡ 192 }
+        ensures without_group { result.has_group ≡ false }
+    {
         ObjectHead {
             head: [0; HEAD],
             from: HEAD,

@@ -1,5 +1,5 @@
 //! What the records of a message begin with, written backwards.
-ghost use Rattle.std.specs.Prelude.{◌≡◌, ◌+◌, ◌≤◌, decimal, length};
+ghost use Rattle.std.specs.Prelude.{◌≡◌, ◌+◌, ◌≤◌, decimal, false, length};
 ghost use Rattle.std.specs.Option.{option_map};
 ghost use Rattle.j39_address.specs.Name.{name_raw};
 ghost use Rattle.j39_io.specs.Backwards.{WritesBefore};
@@ -31,7 +31,10 @@ pub(crate) struct RecordHead {
 
 impl RecordHead {
     /// With nothing.
-    pub fn new() -> RecordHead {
+    pub fn new() -> RecordHead
+        ensures empty { result.from ≡ 96 }
+        ensures without_group { result.has_group ≡ false }
+    {
         RecordHead {
             head: [0; HEAD],
             from: HEAD,

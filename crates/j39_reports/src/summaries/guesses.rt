@@ -1,5 +1,5 @@
 //! Where the values of the last origins stand.
-ghost use Rattle.std.specs.Prelude.{◌≡◌, ◌<◌};
+ghost use Rattle.std.specs.Prelude.{◌≡◌, ◌<◌, replicate};
 ghost use Rattle.j39_memory.specs.ByOrigin.{pairs_of};
 ghost use Rattle.j39_frame.specs.Origin.{place_in};
 
@@ -17,7 +17,9 @@ pub struct Guesses {
 
 impl Guesses {
     /// Each is the first place.
-    pub fn new() -> Guesses {
+    pub fn new() -> Guesses
+        ensures { result.places ≡ replicate 1024 0 }
+    {
         Guesses {
             places: [0; PLACES],
         }
