@@ -174,7 +174,11 @@ pub(crate) fn format_value(given: &ArgMatches<'_>) -> Result<Format, ParseFault>
         let utc = is_given (first_value (found_of given.now) (codes "utc")) in
         IsReadAs (forms_check csv json utc ∷ []) (λ format. written_by csv json utc ≡ Some format) result }
 {
-    match written_by(is_set(given, "csv"), is_set(given, "json"), is_set(given, "utc")) {
+    match written_by(
+        is_set(given, "csv"),
+        is_set(given, "json"),
+        is_set(given, "utc"),
+    ) {
         Some(format) => Ok(format),
         None => Err(ParseFault::BadValue(Argument::Forms)),
     }
@@ -188,7 +192,9 @@ fn written_by(csv: bool, json: bool, utc: bool) -> Option<Format>
         (true, false, false) => Some(Format::Record),
         (false, true, false) => Some(Format::Object),
         (false, false, true) => Some(Format::Line(Clock::Utc)),
-        _ => None,
+        (true, true, _) => None,
+        (true, false, true) => None,
+        (false, true, true) => None,
     }
 }
 
