@@ -10,15 +10,15 @@ _j1939_buses() {
 _j1939_options() {
   case $1 in
     '') echo --help -h --version -V ;;
-    report) echo --bus --table --spn --from --to --pgn --since --until --csv --json --help -h ;;
-    summary) echo --bus --table --spn --from --to --pgn --since --until --csv --json --help -h ;;
-    grid) echo --every --bus --table --spn --from --to --pgn --since --until --csv --json --help -h ;;
-    faults) echo --bus --table --conversion --spn --from --to --pgn --since --until --all --changes --now --csv --json --help -h ;;
-    nodes) echo --bus --from --seen --silent --csv --json --help -h ;;
+    report) echo --bus --table --spn --from --to --pgn --since --until --csv --json --utc --help -h ;;
+    summary) echo --bus --table --spn --from --to --pgn --since --until --csv --json --utc --help -h ;;
+    grid) echo --every --bus --table --spn --from --to --pgn --since --until --csv --json --utc --help -h ;;
+    faults) echo --bus --table --conversion --spn --from --to --pgn --since --until --all --changes --now --csv --json --utc --help -h ;;
+    nodes) echo --bus --from --seen --silent --csv --json --utc --help -h ;;
     answer) echo --name --address --bus --help -h ;;
     cut) echo --source --pgn --at --bus --help -h ;;
     groups) echo --table --help -h ;;
-    survey) echo --bus --table --csv --json --help -h ;;
+    survey) echo --bus --table --csv --json --utc --help -h ;;
     watch) echo --bus --table --spn --rows --width --help -h ;;
     id | name) echo --help -h ;;
   esac

@@ -38,6 +38,7 @@ complete -c j1939 -n '__fish_seen_subcommand_from nodes' -l seen -d 'Also last c
 complete -c j1939 -n '__fish_seen_subcommand_from nodes' -l silent -x -d 'The least silence to write, in seconds'
 complete -c j1939 -n '__fish_seen_subcommand_from report faults nodes summary grid survey' -l csv -d 'Comma-separated values'
 complete -c j1939 -n '__fish_seen_subcommand_from report faults nodes summary grid survey' -l json -d 'Objects of JSON, one a line'
+complete -c j1939 -n '__fish_seen_subcommand_from report faults nodes summary grid survey' -l utc -d 'Lines with times in UTC'
 complete -c j1939 -n '__fish_seen_subcommand_from grid' -l every -x -d 'How many seconds a row stands for'
 complete -c j1939 -n '__fish_seen_subcommand_from faults' -l conversion -x -d 'By which version older SPNs are read: 1, 2 or 3, or NAME=1,..'
 complete -c j1939 -n '__fish_seen_subcommand_from faults' -l all -d 'Each message of faults'

@@ -56,8 +56,8 @@ is_read program (faults conversion all changes now texts) =
     parsed_choices program faults_app (faults conversion all changes now texts) (before_each (form_of (faults conversion all changes now texts)).arguments) file_rule texts.file (takes_file refl)
     (record { choices = tt; known = refl; apart = refl; defaults = refl; none_by_default = refl; first = refl; valid = λ rows. refl })
     (record { step = refl; passes = refl; found = refl; checks = refl }) refl refl
-is_read program (nodes bus from seen silent csv json file) =
-    parsed_choices program nodes_app (nodes bus from seen silent csv json file) (before_each (form_of (nodes bus from seen silent csv json file)).arguments) file_rule file (takes_file refl)
+is_read program (nodes bus from seen silent csv json utc file) =
+    parsed_choices program nodes_app (nodes bus from seen silent csv json utc file) (before_each (form_of (nodes bus from seen silent csv json utc file)).arguments) file_rule file (takes_file refl)
     (record { choices = tt; known = refl; apart = refl; defaults = refl; none_by_default = refl; first = refl; valid = λ rows. refl })
     (record { step = refl; passes = refl; found = refl; checks = refl }) refl refl
 is_read program (answer node address bus file) = parsed_each program answer_app (answer node address bus file)
@@ -73,8 +73,8 @@ is_read program (cut source pgn moment bus hex) = parsed program cut_app (cut so
     (record { step = refl; passes = refl; found = refl; checks = refl }) refl refl
 is_read program (groups table) = parsed program groups_app (groups table) [] (form_of (groups table)).arguments refl
     (record { step = refl; passes = refl; found = refl; checks = refl }) refl refl
-is_read program (survey bus table csv json file) =
-    parsed_choices program survey_app (survey bus table csv json file) (before_each (form_of (survey bus table csv json file)).arguments) file_rule file (takes_file refl)
+is_read program (survey bus table csv json utc file) =
+    parsed_choices program survey_app (survey bus table csv json utc file) (before_each (form_of (survey bus table csv json utc file)).arguments) file_rule file (takes_file refl)
     (record { choices = tt; known = refl; apart = refl; defaults = refl; none_by_default = refl; first = refl; valid = λ rows. refl })
     (record { step = refl; passes = refl; found = refl; checks = refl }) refl refl
 is_read program (watch bus table spn rows width file) =

@@ -99,42 +99,43 @@ asked_are_found texts others found are = (
 )
 
 rows_are_found : (texts : RowTexts) (found : Found) → first_value found (codes "bus") ≡ texts.bus → first_value found (codes "table") ≡ texts.table
-    → texts.asked ≡ asked_found found → AreFound found (log_arguments texts.csv texts.json texts.file) → texts ≡ rows_found found
+    → texts.asked ≡ asked_found found → AreFound found (log_arguments texts.csv texts.json texts.utc texts.file) → texts ≡ rows_found found
 rows_are_found texts found bus table asked log = λ i. record {
   bus = sym bus i;
   table = sym table i;
   asked = asked i;
   csv = sym log.0 i;
   json = sym log.1.0 i;
-  file = sym log.1.1.0 i;
+  utc = sym log.1.1.0 i;
+  file = sym log.1.1.1.0 i;
 }
 
 -- a command is that of its name whose texts are found
 is_command_found : (s : CommandWords) (found : Found) → AreFound found (form_of s).arguments
     → s ≡ command_found (form_of s).called found
 is_command_found (command.report texts) found are =
-    let asked = asked_are_found texts.asked (log_arguments texts.csv texts.json texts.file) found are.1.1 in
+    let asked = asked_are_found texts.asked (log_arguments texts.csv texts.json texts.utc texts.file) found are.1.1 in
     ap command.report (rows_are_found texts found are.0 are.1.0 asked.0 asked.1)
 is_command_found (command.summary texts) found are =
-    let asked = asked_are_found texts.asked (log_arguments texts.csv texts.json texts.file) found are.1.1 in
+    let asked = asked_are_found texts.asked (log_arguments texts.csv texts.json texts.utc texts.file) found are.1.1 in
     ap command.summary (rows_are_found texts found are.0 are.1.0 asked.0 asked.1)
 is_command_found (command.grid every texts) found are =
-    let asked = asked_are_found texts.asked (log_arguments texts.csv texts.json texts.file) found are.1.1.1 in
+    let asked = asked_are_found texts.asked (log_arguments texts.csv texts.json texts.utc texts.file) found are.1.1.1 in
     let rows = rows_are_found texts found are.1.0 are.1.1.0 asked.0 asked.1 in
     λ i. command.grid (sym are.0 i) (rows i)
 is_command_found (command.faults conversion all changes now texts) found are =
-    let flags = flag (codes "all") all ∷ flag (codes "changes") changes ∷ flag (codes "now") now ∷ log_arguments texts.csv texts.json texts.file in
+    let flags = flag (codes "all") all ∷ flag (codes "changes") changes ∷ flag (codes "now") now ∷ log_arguments texts.csv texts.json texts.utc texts.file in
     let asked = asked_are_found texts.asked flags found are.1.1.1 in
     let told = asked.1 in
     let rows = rows_are_found texts found are.0 are.1.0 asked.0 told.1.1.1 in
     λ i. command.faults (sym are.1.1.0 i) (sym told.0 i) (sym told.1.0 i) (sym told.1.1.0 i) (rows i)
-is_command_found (command.nodes bus from seen silent csv json file) found are = cc
+is_command_found (command.nodes bus from seen silent csv json utc file) found are = cc
 is_command_found (command.answer node address bus file) found are =
     cc (is_text_found found (codes "name") node are.0, is_text_found found (codes "address") address are.1.0)
 is_command_found (command.id hex) found are = cc (is_text_found found (codes "hex") hex are.0)
 is_command_found (command.name hex) found are = cc (is_text_found found (codes "hex") hex are.0)
 is_command_found (command.groups table) found are = cc
-is_command_found (command.survey bus table csv json file) found are = cc
+is_command_found (command.survey bus table csv json utc file) found are = cc
 is_command_found (command.watch bus table spn rows width file) found are = cc
 is_command_found (command.cut source pgn moment bus hex) found are =
     cc (

@@ -5,6 +5,7 @@ use Rattle.j39_listen.specs.Filter.{FilterRecord, no_filter}
 use Rattle.j39_listen.specs.Ran.{Ran}
 use Rattle.j39_listen.specs.Run.{WritesAsked, WritesPublished, WritesWholeLines}
 use Rattle.j39_listen.specs.declared.format.Format.{Format}
+use Rattle.j39_listen.specs.declared.format.Clock.TheVariants.{Seconds}
 use Rattle.j39_listen.specs.declared.format.Format.TheVariants.{Line}
 use Rattle.j39_listen.specs.declared.counts.Counts.{Counts}
 use Rattle.j39_listen.specs.declared.running.RunFault.{RunFault}
@@ -30,7 +31,7 @@ is_run asks makes bus bus' r status log out err is ran told = record {
 -- a run of the report that ended, and whose end was told, is one
 pub is_reported : (which : FilterRecord) (format : Format) (bus : Option (List ℕ)) (rows : List RowRecord) (r : Result Counts RunFault) (status : ℕ) (log out err : Turn)
     → Ran (makes_in format which rows) AsksForBoxes bus log_limit r log out → IsTold bus r status err
-    → (format ≡ Line → which ≡ no_filter → OnOk r (IfSome log.old.bytes (λ bytes. WritesPublished rows bus bytes out.old.bytes out.new.bytes)))
+    → (format ≡ Line Seconds → which ≡ no_filter → OnOk r (IfSome log.old.bytes (λ bytes. WritesPublished rows bus bytes out.old.bytes out.new.bytes)))
     → OnOk r (IfSome log.old.bytes (λ bytes. WritesAsked (head_in format) (form_in format) which rows bus bytes out.old.bytes out.new.bytes))
     → (r ≡ Err Read → WritesWholeLines (makes_in format which rows) bus log.old.bytes log.new.bytes out.old.bytes out.new.bytes)
     → IsReported which format bus rows status log out err

@@ -30,7 +30,7 @@ argument_text argument.Conversion = codes "--conversion"
 argument_text argument.Rows = codes "--rows"
 argument_text argument.Width = codes "--width"
 argument_text argument.Together = codes "--all, --changes, --now together"
-argument_text argument.Forms = codes "--csv, --json together"
+argument_text argument.Forms = codes "--csv, --json, --utc together"
 
 -- what it takes, told where the value is wrong, but for those of which that line stands alone
 abbrev pub argument_form : Argument → Option (List ℕ)
@@ -52,7 +52,7 @@ argument_form argument.Conversion = Some (codes "--conversion takes versions fro
 argument_form argument.Rows = Some (codes "--rows takes 2 to 1000")
 argument_form argument.Width = Some (codes "--width takes 20 to 512")
 argument_form argument.Together = Some (codes "one of --all, --changes and --now goes at a time")
-argument_form argument.Forms = Some (codes "one of --csv and --json goes at a time")
+argument_form argument.Forms = Some (codes "one of --csv, --json and --utc goes at a time")
 
 -- ---- the answer to a command that is spelled
 

@@ -28,13 +28,13 @@ pub data CommandWords : Type 0 where
   summary : RowTexts → CommandWords
   grid : Option Text → RowTexts → CommandWords
   faults : Option Text → Bool → Bool → Bool → RowTexts → CommandWords
-  nodes : Option Text → Option Text → Bool → Option Text → Bool → Bool → List Text → CommandWords
+  nodes : Option Text → Option Text → Bool → Option Text → Bool → Bool → Bool → List Text → CommandWords
   answer : Text → Text → Option Text → List Text → CommandWords
   id : Text → CommandWords
   name : Text → CommandWords
   cut : Text → Text → Text → Text → Text → CommandWords
   groups : Option Text → CommandWords
-  survey : Option Text → Option Text → Bool → Bool → List Text → CommandWords
+  survey : Option Text → Option Text → Bool → Bool → Bool → List Text → CommandWords
   watch : Option Text → Option Text → Option Text → Option Text → Option Text → List Text → CommandWords
 
 abbrev pub form_of : CommandWords → Form
@@ -42,13 +42,13 @@ form_of (report texts) = report_form texts
 form_of (summary texts) = summary_form texts
 form_of (grid every texts) = grid_form every texts
 form_of (faults conversion all changes now texts) = faults_form conversion all changes now texts
-form_of (nodes bus from seen silent csv json file) = nodes_form bus from seen silent csv json file
+form_of (nodes bus from seen silent csv json utc file) = nodes_form bus from seen silent csv json utc file
 form_of (answer node address bus file) = answer_form node address bus file
 form_of (id hex) = id_form hex
 form_of (name hex) = name_form hex
 form_of (cut source pgn at bus hex) = cut_form source pgn at bus hex
 form_of (groups table) = groups_form table
-form_of (survey bus table csv json file) = survey_form bus table csv json file
+form_of (survey bus table csv json utc file) = survey_form bus table csv json utc file
 form_of (watch bus table spn rows width file) = watch_form bus table spn rows width file
 
 -- the words after the program's name
@@ -76,15 +76,16 @@ command_found called found =
     (is_given (first_value found (codes "changes"))) (is_given (first_value found (codes "now"))) (rows_found found)
     else if bytes_eq called (codes "nodes") then
     nodes bus (first_value found (codes "from")) (is_given (first_value found (codes "seen"))) (first_value found (codes "silent"))
-    (is_given (first_value found (codes "csv")))
-    (is_given (first_value found (codes "json"))) file
+    (is_given (first_value found (codes "csv"))) (is_given (first_value found (codes "json")))
+    (is_given (first_value found (codes "utc"))) file
     else if bytes_eq called (codes "answer") then
     answer (text_found found (codes "name")) (text_found found (codes "address")) bus file
     else if bytes_eq called (codes "id") then id (text_found found (codes "hex"))
     else if bytes_eq called (codes "name") then name (text_found found (codes "hex"))
     else if bytes_eq called (codes "groups") then groups table
     else if bytes_eq called (codes "survey") then
-    survey bus table (is_given (first_value found (codes "csv"))) (is_given (first_value found (codes "json"))) file
+    survey bus table (is_given (first_value found (codes "csv"))) (is_given (first_value found (codes "json")))
+    (is_given (first_value found (codes "utc"))) file
     else if bytes_eq called (codes "watch") then
     watch bus table (first_value found (codes "spn")) (first_value found (codes "rows")) (first_value found (codes "width")) file
     else cut (text_found found (codes "source")) (text_found found (codes "pgn")) (text_found found (codes "at"))

@@ -1,5 +1,5 @@
 -- The command `faults [--bus B] [--table T] [--conversion C] [--spn SPN,..] [--from A,..] [--to A,..] [--pgn PGN,..] [--since S] [--until S]
--- [--all | --changes | --now] [--csv | --json] [FILE]..`.
+-- [--all | --changes | --now] [--csv | --json | --utc] [FILE]..`.
 use Rattle.std.specs.Prelude.{◌≡◌, ◌≢◌, ◌⊎◌, ◌∷◌, ◌++◌, [], ℕ, Bool, true, false, List, Option, Some, None, Result, Ok, Err, codes, option_map, unwrap_or}
 use Rattle.j39_io.specs.Turn.{Turn}
 use Rattle.clap.specs.Words.{App, Text, new_app, with_rule}
@@ -63,9 +63,9 @@ faults_form conversion all changes now texts = record {
   called = codes "faults";
   arguments = option (codes "bus") texts.bus ∷ option (codes "table") texts.table ∷ option (codes "conversion") conversion
       ∷ asked_arguments texts.asked ++ flag (codes "all") all ∷ flag (codes "changes") changes ∷ flag (codes "now") now
-      ∷ log_arguments texts.csv texts.json texts.file;
+      ∷ log_arguments texts.csv texts.json texts.utc texts.file;
   checks = bus_check texts.bus ∷ value_check IsConversionList argument.Conversion conversion
-      ∷ asked_checks texts.asked ++ told_check all changes now ∷ forms_check texts.csv texts.json ∷ [];
+      ∷ asked_checks texts.asked ++ told_check all changes now ∷ forms_check texts.csv texts.json texts.utc ∷ [];
   Is = IsFaultsTask conversion all changes now texts;
 }
 

@@ -1,5 +1,5 @@
 -- The command `grid [--every S] [--bus B] [--table T] --spn SPN,.. [--from A,..] [--to A,..] [--pgn PGN,..] [--since S] [--until S]
--- [--csv | --json] [FILE]..`.
+-- [--csv | --json | --utc] [FILE]..`.
 use Rattle.std.specs.Prelude.{◌≡◌, ◌≢◌, ◌∷◌, [], ℕ, false, List, None, Option, codes, option_map, unwrap_or}
 use Rattle.clap.specs.Words.{App, Text, new_app, with_rule}
 use Rattle.j39_groups.specs.Row.{RowRecord}

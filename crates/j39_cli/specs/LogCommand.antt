@@ -19,6 +19,7 @@ use Rattle.j39_cli.specs.Rules.{flag_rule, option_rule, values_rule}
 use Rattle.j39_cli.specs.Counted.{counts_text}
 use Rattle.j39_cli.specs.Refusal.{error_line}
 use Rattle.j39_cli.specs.Tells.{Tells}
+use Rattle.j39_listen.specs.declared.format.Clock.TheVariants.{Seconds, Utc}
 use Rattle.j39_listen.specs.declared.format.Format.{Format}
 use Rattle.j39_listen.specs.declared.format.Format.TheVariants.{Line, Object, Record}
 use Rattle.j39_cli.specs.declared.task.Argument.TheVariants as argument
@@ -28,23 +29,29 @@ use Rattle.j39_cli.specs.declared.task.LogInput.{LogInput}
 abbrev pub with_log : App → App
 with_log command = with_rule (with_rule command (option_rule (codes "bus") false)) (values_rule (codes "file"))
 
--- a command that writes in each form takes `--csv` and `--json`
+-- a command that writes in each form takes `--csv`, `--json` and `--utc`
 abbrev pub with_forms : App → App
-with_forms command = with_rule (with_rule command (flag_rule (codes "csv"))) (flag_rule (codes "json"))
+with_forms command =
+    with_rule (with_rule (with_rule command (flag_rule (codes "csv"))) (flag_rule (codes "json"))) (flag_rule (codes "utc"))
 
--- how what the log has is written: `--csv` asks for comma-separated values, `--json` for objects; not both
-abbrev pub written_by : Bool → Bool → Option Format
-written_by false false = Some Line
-written_by true false = Some Record
-written_by false true = Some Object
-written_by true true = None
+-- how what the log has is written: `--csv` asks for comma-separated values, `--json` for objects, `--utc` for lines with their
+-- moments in UTC; no two go together
+abbrev pub written_by : Bool → Bool → Bool → Option Format
+written_by false false false = Some (Line Seconds)
+written_by true false false = Some Record
+written_by false true false = Some Object
+written_by false false true = Some (Line Utc)
+written_by true true utc = None
+written_by true false true = None
+written_by false true true = None
 
-abbrev pub forms_check : Bool → Bool → Check
-forms_check csv json = check (written_by csv json ≢ None) argument.Forms
+abbrev pub forms_check : Bool → Bool → Bool → Check
+forms_check csv json utc = check (written_by csv json utc ≢ None) argument.Forms
 
 -- the last arguments of such a command
-abbrev pub log_arguments : Bool → Bool → List Text → List ArgumentText
-log_arguments csv json file = flag (codes "csv") csv ∷ flag (codes "json") json ∷ values (codes "file") file ∷ []
+abbrev pub log_arguments : Bool → Bool → Bool → List Text → List ArgumentText
+log_arguments csv json utc file =
+    flag (codes "csv") csv ∷ flag (codes "json") json ∷ flag (codes "utc") utc ∷ values (codes "file") file ∷ []
 
 -- FILE may stand for standard input
 abbrev pub is_input : List ℕ → Bool

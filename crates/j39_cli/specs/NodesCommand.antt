@@ -1,4 +1,4 @@
--- The command `nodes [--bus B] [--from A,..] [--seen] [--silent S] [--csv | --json] [FILE]..`.
+-- The command `nodes [--bus B] [--from A,..] [--seen] [--silent S] [--csv | --json | --utc] [FILE]..`.
 use Rattle.std.specs.Prelude.{◌≡◌, ◌∷◌, [], ℕ, Bool, false, true, List, None, Option, Some, codes, option_map}
 use Rattle.clap.specs.Words.{App, Text, new_app, with_rule}
 use Rattle.j39_listen.specs.Asking.{AsksNowhere}
@@ -30,25 +30,25 @@ nodes_app = with_log (with_forms (with_rule (with_rule (with_rule (new_app (code
 abbrev pub told_by : Option ℕ → Bool → Format → NodesTold
 told_by (Some silence) seen format = Seen format silence
 told_by None true format = Seen format long_silence
-told_by None false Line = Held
+told_by None false (Line clock) = Held
 told_by None false Record = Seen Record long_silence
 told_by None false Object = Seen Object long_silence
 
-abbrev pub IsNodesTask : Option (List ℕ) → Option (List ℕ) → Bool → Option (List ℕ) → Bool → Bool → List (List ℕ) → Task → Type 0
-IsNodesTask bus from seen silent csv json file (Nodes input senders told) =
+abbrev pub IsNodesTask : Option (List ℕ) → Option (List ℕ) → Bool → Option (List ℕ) → Bool → Bool → Bool → List (List ℕ) → Task → Type 0
+IsNodesTask bus from seen silent csv json utc file (Nodes input senders told) =
     (input.bus ≡ bus) × (senders ≡ option_map senders_in from)
-    × (option_map (told_by (option_map seconds_value silent) seen) (written_by csv json) ≡ Some told)
+    × (option_map (told_by (option_map seconds_value silent) seen) (written_by csv json utc) ≡ Some told)
     × (input.file ≡ file)
-IsNodesTask bus from seen silent csv json file t = ⊥
+IsNodesTask bus from seen silent csv json utc file t = ⊥
 
-abbrev pub nodes_form : Option Text → Option Text → Bool → Option Text → Bool → Bool → List Text → Form
-nodes_form bus from seen silent csv json file = record {
+abbrev pub nodes_form : Option Text → Option Text → Bool → Option Text → Bool → Bool → Bool → List Text → Form
+nodes_form bus from seen silent csv json utc file = record {
   called = codes "nodes";
   arguments = option (codes "bus") bus ∷ option (codes "from") from ∷ flag (codes "seen") seen ∷ option (codes "silent") silent
-      ∷ log_arguments csv json file;
+      ∷ log_arguments csv json utc file;
   checks = bus_check bus ∷ value_check IsSenderList argument.From from ∷ value_check AreSeconds argument.Silent silent
-      ∷ forms_check csv json ∷ [];
-  Is = IsNodesTask bus from seen silent csv json file;
+      ∷ forms_check csv json utc ∷ [];
+  Is = IsNodesTask bus from seen silent csv json utc file;
 }
 
 -- of who is asked for, with a NAME or at an address

@@ -1,5 +1,5 @@
 -- The commands that read a log by a table and write rows: `[--bus B] [--table T] [--spn SPN,..] [--from A,..] [--to A,..]
--- [--pgn PGN,..] [--since S] [--until S] [--csv | --json] [FILE]..`.
+-- [--pgn PGN,..] [--since S] [--until S] [--csv | --json | --utc] [FILE]..`.
 use Rattle.std.specs.Prelude.{◌≡◌, ◌∷◌, ◌++◌, [], Bool, List, Option, Some, codes, true}
 use Rattle.std.specs.Option.{ForSome}
 use Rattle.clap.specs.Words.{App, Text, first_value, new_app}
@@ -21,6 +21,7 @@ pub record RowTexts : Type 0 where
   pub asked : AskedTexts
   pub csv : Bool
   pub json : Bool
+  pub utc : Bool
   pub file : List Text
 
 abbrev pub rows_found : Found → RowTexts
@@ -30,6 +31,7 @@ rows_found found = record {
   asked = asked_found found;
   csv = is_given (first_value found (codes "csv"));
   json = is_given (first_value found (codes "json"));
+  utc = is_given (first_value found (codes "utc"));
   file = texts_found found (codes "file");
 }
 
@@ -38,7 +40,7 @@ pub record AreOptions (texts : RowTexts) (o : RowOptions) : Type 0 where
   pub bus_is : o.input.bus ≡ texts.bus
   pub table_is : o.table ≡ texts.table
   pub asked_is : IsAsked texts.asked o.asked
-  pub format_is : written_by texts.csv texts.json ≡ Some o.format
+  pub format_is : written_by texts.csv texts.json texts.utc ≡ Some o.format
   pub files_are : o.input.file ≡ texts.file
 
 -- ---- such a command, with no values but these
@@ -47,12 +49,12 @@ abbrev pub row_app : Text → App
 row_app called = with_log (with_forms (with_asked (with_table (new_app called))))
 
 abbrev pub row_checks : RowTexts → List Check
-row_checks texts = bus_check texts.bus ∷ asked_checks texts.asked ++ forms_check texts.csv texts.json ∷ []
+row_checks texts = bus_check texts.bus ∷ asked_checks texts.asked ++ forms_check texts.csv texts.json texts.utc ∷ []
 
 abbrev pub row_arguments : RowTexts → List ArgumentText
 row_arguments texts =
     option (codes "bus") texts.bus ∷ option (codes "table") texts.table ∷ asked_arguments texts.asked
-    ++ log_arguments texts.csv texts.json texts.file
+    ++ log_arguments texts.csv texts.json texts.utc texts.file
 
 abbrev pub row_form : Text → RowTexts → (Task → Type 0) → Form
 row_form called texts Is = record {

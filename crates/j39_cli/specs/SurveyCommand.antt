@@ -1,4 +1,4 @@
--- The command `survey [--bus B] [--table T] [--csv | --json] [FILE]..`.
+-- The command `survey [--bus B] [--table T] [--csv | --json | --utc] [FILE]..`.
 use Rattle.std.specs.Prelude.{◌≡◌, ◌⊎◌, ◌∷◌, ℕ, List, [], Bool, Option, Some, Result, Ok, Err, codes, true}
 use Rattle.j39_io.specs.Turn.{Turn}
 use Rattle.std.specs.Option.{ForSome}
@@ -21,17 +21,17 @@ use Rattle.j39_cli.specs.declared.task.Task.TheVariants.{Survey}
 abbrev pub survey_app : App
 survey_app = with_log (with_forms (with_table (new_app (codes "survey"))))
 
-abbrev pub IsSurveyTask : Option (List ℕ) → Option (List ℕ) → Bool → Bool → List (List ℕ) → Task → Type 0
-IsSurveyTask bus table csv json file (Survey input table' format) =
-    (input.bus ≡ bus) × (table' ≡ table) × (written_by csv json ≡ Some format) × (input.file ≡ file)
-IsSurveyTask bus table csv json file t = ⊥
+abbrev pub IsSurveyTask : Option (List ℕ) → Option (List ℕ) → Bool → Bool → Bool → List (List ℕ) → Task → Type 0
+IsSurveyTask bus table csv json utc file (Survey input table' format) =
+    (input.bus ≡ bus) × (table' ≡ table) × (written_by csv json utc ≡ Some format) × (input.file ≡ file)
+IsSurveyTask bus table csv json utc file t = ⊥
 
-abbrev pub survey_form : Option Text → Option Text → Bool → Bool → List Text → Form
-survey_form bus table csv json file = record {
+abbrev pub survey_form : Option Text → Option Text → Bool → Bool → Bool → List Text → Form
+survey_form bus table csv json utc file = record {
   called = codes "survey";
-  arguments = option (codes "bus") bus ∷ option (codes "table") table ∷ log_arguments csv json file;
-  checks = bus_check bus ∷ forms_check csv json ∷ [];
-  Is = IsSurveyTask bus table csv json file;
+  arguments = option (codes "bus") bus ∷ option (codes "table") table ∷ log_arguments csv json utc file;
+  checks = bus_check bus ∷ forms_check csv json utc ∷ [];
+  Is = IsSurveyTask bus table csv json utc file;
 }
 
 -- the end of a survey: nothing is said of one that was written, with status 0, and a fault is told, with status 1

@@ -21,7 +21,7 @@ use std::alloc::{AllocError, Global};
 /// The most bytes of a log that the program reads.
 pub(crate) const LOG_LIMIT: u64 = 17_179_869_184;
 
-/// The command with `--csv` and `--json`, which each takes that writes these forms too.
+/// The command with `--csv`, `--json` and `--utc`, which each takes that writes these forms too.
 pub(crate) fn with_forms<'a>(
     alloc: Global,
     command: Result<Command<'a>, AllocError>,
@@ -31,7 +31,9 @@ pub(crate) fn with_forms<'a>(
     let help = "As comma-separated values (RFC 4180), below the names of the columns";
     let command = with_flag(alloc, command, "csv", help);
     let help = "As objects of JSON (RFC 8259), one a line";
-    with_flag(alloc, command, "json", help)
+    let command = with_flag(alloc, command, "json", help);
+    let help = "In lines, with each time in UTC, as 2023-11-14T22:13:20.250000Z";
+    with_flag(alloc, command, "utc", help)
 }
 
 /// The command with the arguments of a log.

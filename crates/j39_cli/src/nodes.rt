@@ -115,7 +115,7 @@ fn told_by(silence: Option<u64>, is_seen: bool, format: Format) -> NodesTold
                 seen(format)
             } else {
                 match format {
-                    Format::Line => NodesTold::Held,
+                    Format::Line(_) => NodesTold::Held,
                     Format::Record => seen(Format::Record),
                     Format::Object => seen(Format::Object),
                 }

@@ -6,6 +6,7 @@ ghost use Rattle.j39_listen.specs.Asking.{AsksForBoxes};
 ghost use Rattle.j39_listen.specs.Filter.{no_filter};
 ghost use Rattle.j39_listen.specs.Ran.{Ran};
 ghost use Rattle.j39_listen.specs.Run.{WritesAsked, WritesPublished, WritesWholeLines};
+ghost use Rattle.j39_listen.specs.declared.format.Clock.TheVariants.{Seconds};
 ghost use Rattle.j39_listen.specs.declared.format.Format.TheVariants.{Line};
 ghost use Rattle.j39_listen.specs.declared.running.RunFault.TheVariants.{Read};
 ghost use Rattle.j39_cli.specs.Asked.{filter_in};
@@ -21,8 +22,8 @@ use crate::{ParseFault, Task};
 use clap::{ArgMatches, Command};
 use j39_groups::Groups;
 use j39_io::{Sink, Source};
-use j39_listen::{Counts, Format, RunFault, run_filtered};
-use j39_reports::{report_csv, report_json};
+use j39_listen::{Clock, Counts, Format, RunFault, run_filtered};
+use j39_reports::{report_csv, report_in_utc, report_json};
 use std::alloc::{AllocError, Global};
 
 const ABOUT: &str = "\
@@ -117,7 +118,7 @@ fn run<R: Source, W: Sink>(
     ensures ran { Ran (makes_in options.now.format (filter_in options.now.asked) groups.now) AsksForBoxes options.now.input.bus
         log_limit result
         (turn R.remaining R.has_failed source.old source.new) (turn W.written W.has_failed sink.old sink.new) }
-    ensures published { options.now.format ≡ Line → filter_in options.now.asked ≡ no_filter → OnOk result (IfSome (R.remaining source.old)
+    ensures published { options.now.format ≡ Line Seconds → filter_in options.now.asked ≡ no_filter → OnOk result (IfSome (R.remaining source.old)
         (λ log. WritesPublished groups.now options.now.input.bus log (W.written sink.old) (W.written sink.new))) }
     ensures asked { OnOk result (IfSome (R.remaining source.old)
         (λ log. WritesAsked (head_in options.now.format) (form_in options.now.format)
@@ -131,7 +132,12 @@ fn run<R: Source, W: Sink>(
     let filter = options.asked.filter_given();
     let bus = copy_of(&options.input.bus);
     match options.format {
-        Format::Line => run_filtered(alloc, groups, filter, source, sink, bus, LOG_LIMIT),
+        Format::Line(Clock::Seconds) => {
+            run_filtered(alloc, groups, filter, source, sink, bus, LOG_LIMIT)
+        }
+        Format::Line(Clock::Utc) => {
+            report_in_utc(alloc, groups, filter, source, sink, bus, LOG_LIMIT)
+        }
         Format::Record => report_csv(alloc, groups, filter, source, sink, bus, LOG_LIMIT),
         Format::Object => report_json(alloc, groups, filter, source, sink, bus, LOG_LIMIT),
     }

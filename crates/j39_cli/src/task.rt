@@ -296,7 +296,7 @@ pub enum Argument {
     Width,
     /// Two of `--all`, `--changes` and `--now`, which don't go together.
     Together,
-    /// `--csv` and `--json`, which don't.
+    /// Two of `--csv`, `--json` and `--utc`, which don't.
     Forms,
 }
 
@@ -324,7 +324,7 @@ impl Argument {
             Argument::Rows => "--rows",
             Argument::Width => "--width",
             Argument::Together => "--all, --changes, --now together",
-            Argument::Forms => "--csv, --json together",
+            Argument::Forms => "--csv, --json, --utc together",
         }
     }
 
@@ -356,7 +356,7 @@ impl Argument {
             Argument::Rows => "--rows takes 2 to 1000",
             Argument::Width => "--width takes 20 to 512",
             Argument::Together => "one of --all, --changes and --now goes at a time",
-            Argument::Forms => "one of --csv and --json goes at a time",
+            Argument::Forms => "one of --csv, --json and --utc goes at a time",
         };
         Some(form)
     }

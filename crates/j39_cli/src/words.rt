@@ -23,7 +23,7 @@ use crate::{
 };
 use clap::error::ErrorKind;
 use clap::{ArgMatches, Error};
-use j39_listen::{Format, Moment};
+use j39_listen::{Clock, Format, Moment};
 use j39_log::Bus;
 use std::alloc::{AllocError, Global};
 use std::convert::AsStr;
@@ -167,26 +167,34 @@ fn files_given<'a>(alloc: Global, given: &ArgMatches<'a>) -> Result<Files<'a>, A
     }
 }
 
-/// How what the log has is written by `--csv` and `--json`, which don't go together.
+/// How what the log has is written by `--csv`, `--json` and `--utc`, which don't go together.
 pub(crate) fn format_value(given: &ArgMatches<'_>) -> Result<Format, ParseFault>
     ensures { let csv = is_given (first_value (found_of given.now) (codes "csv")) in
         let json = is_given (first_value (found_of given.now) (codes "json")) in
-        IsReadAs (forms_check csv json ∷ []) (λ format. written_by csv json ≡ Some format) result }
+        let utc = is_given (first_value (found_of given.now) (codes "utc")) in
+        IsReadAs (forms_check csv json utc ∷ []) (λ format. written_by csv json utc ≡ Some format) result }
 {
-    match written_by(is_set(given, "csv"), is_set(given, "json")) {
+    match written_by(
+        is_set(given, "csv"),
+        is_set(given, "json"),
+        is_set(given, "utc"),
+    ) {
         Some(format) => Ok(format),
         None => Err(ParseFault::BadValue(Argument::Forms)),
     }
 }
 
-fn written_by(csv: bool, json: bool) -> Option<Format>
-    ensures { result ≡ written_by csv json }
+fn written_by(csv: bool, json: bool, utc: bool) -> Option<Format>
+    ensures { result ≡ written_by csv json utc }
 {
-    match (csv, json) {
-        (false, false) => Some(Format::Line),
-        (true, false) => Some(Format::Record),
-        (false, true) => Some(Format::Object),
-        (true, true) => None,
+    match (csv, json, utc) {
+        (false, false, false) => Some(Format::Line(Clock::Seconds)),
+        (true, false, false) => Some(Format::Record),
+        (false, true, false) => Some(Format::Object),
+        (false, false, true) => Some(Format::Line(Clock::Utc)),
+        (true, true, _) => None,
+        (true, false, true) => None,
+        (false, true, true) => None,
     }
 }
 

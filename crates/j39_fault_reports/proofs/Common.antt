@@ -46,6 +46,7 @@ pub use Rattle.j39_listen.specs.ReportSoFar.{made_of, made_sum}
 pub use Rattle.j39_listen.specs.declared.account.LineFault.{LineFault}
 pub use Rattle.j39_listen.specs.declared.chooser.Chooser.{Chooser}
 pub use Rattle.j39_listen.specs.declared.counts.Made.{Made}
+pub use Rattle.j39_listen.specs.declared.format.Clock.{Clock}
 pub use Rattle.j39_listen.specs.declared.format.Format.{Format}
 pub use Rattle.j39_listen.specs.declared.format.Format.TheVariants.{Line}
 pub use Rattle.j39_listen.specs.declared.listener.Listener.{Listener}

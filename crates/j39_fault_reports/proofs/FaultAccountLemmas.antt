@@ -1,5 +1,5 @@
 -- What is told of more messages, and of more frames.
-use Rattle.j39_fault_reports.proofs.Common.{◌≡◌, ◌∙◌, ◌+◌, ◌<◌, ◌≤◌, ℕ, zero, suc, true, false, List, [], ◌∷◌, ◌++◌, Option, Some, None, ap, append-nil, append_assoc, arith, filter, inl, inr, length, length-append, refl, slice_get, subst, sym, take, cases_Bool, cond-true, cond-false, flat_map-append, take-append-le, filter-append, Appends, Appends-nil, FrameRecord, Begins, MakesOne, Meets, Stops, capped, Chooses, FilterRecord, first_stamp, in_time, is_in_time, no_filter, takes_message, Chooser, AreHeardWith, Hearing, LeavesNetwork, or_none, Hears, Output, made_of, made_sum, Made, heard_more, capped-sum, same_made, heard_below_unique, heard_first, Bool, count_by, if◌then◌else◌, Format, Line}
+use Rattle.j39_fault_reports.proofs.Common.{◌≡◌, ◌∙◌, ◌+◌, ◌<◌, ◌≤◌, ℕ, zero, suc, true, false, List, [], ◌∷◌, ◌++◌, Option, Some, None, ap, append-nil, append_assoc, arith, filter, inl, inr, length, length-append, refl, slice_get, subst, sym, take, cases_Bool, cond-true, cond-false, flat_map-append, take-append-le, filter-append, Appends, Appends-nil, FrameRecord, Begins, MakesOne, Meets, Stops, capped, Chooses, FilterRecord, first_stamp, in_time, is_in_time, no_filter, takes_message, Chooser, AreHeardWith, Hearing, LeavesNetwork, or_none, Hears, Output, made_of, made_sum, Made, heard_more, capped-sum, same_made, heard_below_unique, heard_first, Bool, count_by, if◌then◌else◌, Clock, Format, Line}
 use Rattle.j39_fault_reports.specs.Faults.{Fault, Manner, asks_fault, faults_taken, lines_in, says_asked}
 use Rattle.j39_fault_reports.specs.Told.{told, told_below, told_here}
 use Rattle.j39_fault_reports.specs.News.{Chosen, chosen_of, faults_among, is_fault_group, is_of_faults}
@@ -301,8 +301,8 @@ news_one_in form s = λ bus F x y (hs, are_x, is_x) (ks, are_y, is_y).
     ap (λ (o : Output). o.text) is_x ∙ ap (λ (ms : List Hearing). (faults_of form s.manner s.which (first_stamp F) (faults_among ms)).text) (heard_below_unique is_fault_group faults_leave F (length F) hs ks are_x are_y)
     ∙ sym (ap (λ (o : Output). o.text) is_y)
 
-pub news_one : (s : Subject) → MakesOne (MakesFaults Line s.manner s.which)
-news_one s = news_one_in Line s
+pub news_one : (clock : Clock) (s : Subject) → MakesOne (MakesFaults (Line clock) s.manner s.which)
+news_one clock s = news_one_in (Line clock) s
 
 -- a fault of the writer at a frame
 pub news_stops : (form : Format) (s : Subject) (a : FaultNews) (chooser : Chooser) (f : FrameRecord) (old new : Option (List ℕ))

@@ -59,7 +59,7 @@ pub fn grid<R: Source, W: Sink>(
 {
     let account = GridAccount::new(alloc, groups, filter, asked);
     match asked.form {
-        Format::Line => run_over(account, source, sink, bus, limit),
+        Format::Line(_) => run_over(account, source, sink, bus, limit),
         Format::Record => run_named(account, source, sink, bus, limit),
         Format::Object => run_over(account, source, sink, bus, limit),
     }

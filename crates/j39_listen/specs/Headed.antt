@@ -13,12 +13,12 @@ Headed head makes bus F output = (below : Output) × makes bus F below × (outpu
 
 -- above records stand the names of their columns
 abbrev pub Columned : List ℕ → Format → Making → Making
-Columned columns Line makes = makes
+Columned columns (Line clock) makes = makes
 Columned columns Record makes = Headed columns makes
 Columned columns Object makes = makes
 
 -- whether all is passed on before the first read: the names of columns are
 abbrev pub begins_flushed : Format → Bool → Bool
-begins_flushed Line before = before
+begins_flushed (Line clock) before = before
 begins_flushed Record before = true
 begins_flushed Object before = before

@@ -27,7 +27,7 @@ pub use chooser::Chooser;
 pub use counts::{Counts, Made};
 pub use entry_form::EntryForm;
 pub use filter::{Filter, Moment, Sender, is_from};
-pub use format::Format;
+pub use format::{Clock, Format};
 pub use headed::{run_headed, run_headed_keeping};
 pub use heard::Heard;
 pub use listener::Listener;

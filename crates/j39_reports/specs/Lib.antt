@@ -3,6 +3,8 @@ pub mod Columns
 -- the report as records: the record of an entry, and what a run makes of the frames
 pub mod EntryText
 pub mod ReportRecords
+-- the report in lines with their moments in UTC
+pub mod EntryInUtc
 -- the report as objects of JSON
 pub mod Json
 pub mod EntryObject

@@ -2,12 +2,14 @@
 #![tactic(auto)]
 
 mod json;
+mod lines_in_utc;
 mod report_objects;
 mod report_records;
 mod second;
 mod sides;
 pub mod summaries;
 
+pub use lines_in_utc::report_in_utc;
 pub use report_objects::report_json;
 pub use report_records::{report_csv, scaled_before};
 pub use summaries::{Guesses, Sample, StoredValue, again, summary};

@@ -7,6 +7,8 @@ use Rattle.j39_groups.specs.ValueText.{quoted, text_in_field}
 use Rattle.j39_io.specs.Chars.{newline}
 use Rattle.j39_io.specs.Records.{later_text, line_end}
 use Rattle.j39_rows.specs.Members.{in_marks, seconds_number}
+use Rattle.j39_listen.specs.declared.format.Clock.{Clock}
+use Rattle.j39_listen.specs.declared.format.Clock.TheVariants.{Seconds, Utc}
 use Rattle.j39_listen.specs.declared.format.Format.{Format}
 use Rattle.j39_listen.specs.declared.format.Format.TheVariants.{Line, Object, Record}
 use Rattle.j39_log.specs.StampText.{seconds_text, stamp_text}
@@ -86,12 +88,17 @@ abbrev pub text_or_nothing : List ℕ → CellRecord
 text_or_nothing [] = nothing
 text_or_nothing (byte ∷ bytes) = text (byte ∷ bytes)
 
+-- a moment in a line: as a log has it, or in UTC
+abbrev pub moment_text : Clock → ℕ → List ℕ
+moment_text Seconds stamp = stamp_text stamp
+moment_text Utc stamp = utc_text stamp
+
 abbrev pub plain_text : Format → PlainRecord → List ℕ
 plain_text form (digits bytes) = bytes
-plain_text Line (word bytes) = bytes
+plain_text (Line clock) (word bytes) = bytes
 plain_text Record (word bytes) = bytes
 plain_text Object (word bytes) = in_marks bytes
-plain_text Line (seconds stamp) = stamp_text stamp
+plain_text (Line clock) (seconds stamp) = moment_text clock stamp
 plain_text Record (seconds stamp) = seconds_text stamp
 plain_text Object (seconds stamp) = seconds_number stamp
 
@@ -107,18 +114,18 @@ name_column name = in_all (codes "name") (always (codes " ") (codes "-----------
 
 -- ---- in a line
 
-abbrev pub shown_text : CellRecord → List ℕ
-shown_text nothing = []
-shown_text (aside bytes) = bytes
-shown_text (plain p) = plain_text Line p
-shown_text (text bytes) = bytes
-shown_text (sent bytes) = quoted bytes
+abbrev pub shown_text : Clock → CellRecord → List ℕ
+shown_text clock nothing = []
+shown_text clock (aside bytes) = bytes
+shown_text clock (plain p) = plain_text (Line clock) p
+shown_text clock (text bytes) = bytes
+shown_text clock (sent bytes) = quoted bytes
 
-unfoldable pub line_text : PlaceRecord → CellRecord → List ℕ
-line_text (always before none) nothing = before ++ none
-line_text (if_any before) nothing = []
-line_text (always before none) cell = before ++ shown_text cell
-line_text (if_any before) cell = before ++ shown_text cell
+unfoldable pub line_text : Clock → PlaceRecord → CellRecord → List ℕ
+line_text clock (always before none) nothing = before ++ none
+line_text clock (if_any before) nothing = []
+line_text clock (always before none) cell = before ++ shown_text clock cell
+line_text clock (if_any before) cell = before ++ shown_text clock cell
 
 -- ---- in a record, behind a comma
 
@@ -144,9 +151,9 @@ member_text name cell = key_text name ++ object_text name cell
 -- ---- a row
 
 abbrev pub column_text : Format → ColumnRecord → List ℕ
-column_text Line (in_all name place cell) = line_text place cell
-column_text Line (in_lines place cell) = line_text place cell
-column_text Line (beside_lines name cell) = []
+column_text (Line clock) (in_all name place cell) = line_text clock place cell
+column_text (Line clock) (in_lines place cell) = line_text clock place cell
+column_text (Line clock) (beside_lines name cell) = []
 column_text Record (in_all name place cell) = field_behind cell
 column_text Record (in_lines place cell) = []
 column_text Record (beside_lines name cell) = field_behind cell
@@ -155,12 +162,12 @@ column_text Object (in_lines place cell) = []
 column_text Object (beside_lines name cell) = member_text name cell
 
 abbrev pub opening : Format → List ℕ → List ℕ
-opening Line name = []
+opening (Line clock) name = []
 opening Record name = []
 opening Object name = codes "{\"" ++ (name ++ codes "\":")
 
 abbrev pub closing : Format → List ℕ
-closing Line = newline ∷ []
+closing (Line clock) = newline ∷ []
 closing Record = line_end
 closing Object = codes "}\n"
 

@@ -16,7 +16,7 @@ pub enum Plain<'a> {
     Micros(u64),
     /// Bytes that need no quotes in a record, and no escape in an object.
     Word(&'a [u8]),
-    /// A moment in seconds; in lines in brackets.
+    /// A moment in seconds; in lines by their clock.
     Seconds(Stamp),
     /// A moment in UTC.
     Utc(Stamp),

@@ -10,7 +10,7 @@ ghost use Rattle.j39_listen.specs.declared.format.Format.TheVariants.{Record};
 ghost use Rattle.j39_rows.specs.Json.{bytes_under, string_text};
 ghost use Rattle.j39_rows.specs.Members.{seconds_number};
 ghost use Rattle.j39_rows.specs.Models.{cell_of, column_of, head_of, place_of, plain_of};
-ghost use Rattle.j39_rows.specs.Row.{closing, column_text, field_behind, head_text, line_text, member_text, object_text, opening, plain_text, row_text, seconds, shown_text, word};
+ghost use Rattle.j39_rows.specs.Row.{closing, column_text, field_behind, head_text, line_text, member_text, moment_text, object_text, opening, plain_text, row_text, seconds, shown_text, word};
 
 use crate::cell::{Cell, Column, Head, Place, Plain};
 use crate::json::{put_bytes_under, put_string};
@@ -19,9 +19,9 @@ use crate::utc::utc_text;
 use arrayvec::ArrayVec;
 use j39_frame::Stamp;
 use j39_groups::{Value, put_value, scaled_text};
-use j39_io::printing::{push_hex, push_last_digits, push_number};
+use j39_io::printing::{push_bytes, push_hex, push_last_digits, push_number};
 use j39_io::{DeviceFault, Sink, put_all, put_behind_comma};
-use j39_listen::Format;
+use j39_listen::{Clock, Format};
 use j39_log::{push_seconds, push_stamp};
 
 /// A number, a moment, an address or a NAME.
@@ -57,7 +57,7 @@ fn put_opening<W: Sink>(form: Format, name: &[u8], sink: &mut W) -> Result<(), D
     ensures { Puts (opening form name.now) result (turn W.written W.has_failed sink.old sink.new) }
 {
     match form {
-        Format::Line => Ok(()),
+        Format::Line(_) => Ok(()),
         Format::Record => Ok(()),
         Format::Object => {
             let parts: [&[u8]; 3] = [b"{\"", name, b"\":"];
@@ -70,7 +70,7 @@ fn closing(form: Format) -> &'static [u8]
     ensures { result.now ≡ closing form }
 {
     match form {
-        Format::Line => b"\n",
+        Format::Line(_) => b"\n",
         Format::Record => b"\r\n",
         Format::Object => b"}\n",
     }
@@ -97,9 +97,13 @@ fn put_column<W: Sink>(form: Format, column: Column<'_>, sink: &mut W) -> Result
         (turn W.written W.has_failed sink.old sink.new) }
 {
     match (form, column) {
-        (Format::Line, Column::All(_, place, cell)) => put_in_line(place, cell, sink),
-        (Format::Line, Column::InLines(place, cell)) => put_in_line(place, cell, sink),
-        (Format::Line, Column::BesideLines(_, _)) => Ok(()),
+        (Format::Line(clock), Column::All(_, place, cell)) => {
+            put_in_line(clock, place, cell, sink)
+        }
+        (Format::Line(clock), Column::InLines(place, cell)) => {
+            put_in_line(clock, place, cell, sink)
+        }
+        (Format::Line(_), Column::BesideLines(_, _)) => Ok(()),
         (Format::Record, Column::All(_, _, cell)) => put_field(cell, sink),
         (Format::Record, Column::InLines(_, _)) => Ok(()),
         (Format::Record, Column::BesideLines(_, cell)) => put_field(cell, sink),
@@ -110,8 +114,13 @@ fn put_column<W: Sink>(form: Format, column: Column<'_>, sink: &mut W) -> Result
 }
 
 #[tactic(auto, unfolding(crate::specs::Row::line_text))]
-fn put_in_line<W: Sink>(place: Place<'_>, cell: Cell<'_>, sink: &mut W) -> Result<(), DeviceFault>
-    ensures { Puts (line_text (place_of place.entry) (cell_of cell.entry)) result
+fn put_in_line<W: Sink>(
+    clock: Clock,
+    place: Place<'_>,
+    cell: Cell<'_>,
+    sink: &mut W,
+) -> Result<(), DeviceFault>
+    ensures { Puts (line_text clock (place_of place.entry) (cell_of cell.entry)) result
         (turn W.written W.has_failed sink.old sink.new) }
 {
     match (place, cell) {
@@ -120,28 +129,33 @@ fn put_in_line<W: Sink>(place: Place<'_>, cell: Cell<'_>, sink: &mut W) -> Resul
             put_parts(&parts, sink)
         }
         (Place::IfAny(_), Cell::Nothing) => Ok(()),
-        (Place::Always(before, _), cell) => put_behind(before, cell, sink),
-        (Place::IfAny(before), cell) => put_behind(before, cell, sink),
+        (Place::Always(before, _), cell) => put_behind(clock, before, cell, sink),
+        (Place::IfAny(before), cell) => put_behind(clock, before, cell, sink),
     }
 }
 
 /// Writes what stands before a cell in a line, and the cell.
-fn put_behind<W: Sink>(before: &[u8], cell: Cell<'_>, sink: &mut W) -> Result<(), DeviceFault>
-    ensures { Puts (before.now ++ shown_text (cell_of cell.entry)) result
+fn put_behind<W: Sink>(
+    clock: Clock,
+    before: &[u8],
+    cell: Cell<'_>,
+    sink: &mut W,
+) -> Result<(), DeviceFault>
+    ensures { Puts (before.now ++ shown_text clock (cell_of cell.entry)) result
         (turn W.written W.has_failed sink.old sink.new) }
 {
     put_all(sink, before)?;
-    put_shown(cell, sink)
+    put_shown(clock, cell, sink)
 }
 
 #[tactic(auto, unfolding(j39_groups::specs::ValueText::value_text))]
-fn put_shown<W: Sink>(cell: Cell<'_>, sink: &mut W) -> Result<(), DeviceFault>
-    ensures { Puts (shown_text (cell_of cell.entry)) result (turn W.written W.has_failed sink.old sink.new) }
+fn put_shown<W: Sink>(clock: Clock, cell: Cell<'_>, sink: &mut W) -> Result<(), DeviceFault>
+    ensures { Puts (shown_text clock (cell_of cell.entry)) result (turn W.written W.has_failed sink.old sink.new) }
 {
     match cell {
         Cell::Nothing => Ok(()),
         Cell::Aside(bytes) => put_all(sink, bytes),
-        Cell::Is(plain) => put_plain(Format::Line, plain, sink),
+        Cell::Is(plain) => put_plain(Format::Line(clock), plain, sink),
         Cell::Text(bytes) => put_all(sink, bytes),
         Cell::Sent(bytes) => put_value(&Value::Text(bytes), sink),
     }
@@ -229,7 +243,7 @@ fn put_word<W: Sink>(form: Format, bytes: &[u8], sink: &mut W) -> Result<(), Dev
     ensures { Puts (plain_text form (word bytes.now)) result (turn W.written W.has_failed sink.old sink.new) }
 {
     match form {
-        Format::Line => put_all(sink, bytes),
+        Format::Line(_) => put_all(sink, bytes),
         Format::Record => put_all(sink, bytes),
         Format::Object => {
             let parts: [&[u8]; 3] = [b"\"", bytes, b"\""];
@@ -250,11 +264,24 @@ fn decimal_of(number: u64) -> Short
 fn seconds_of(form: Format, stamp: Stamp) -> Short
     ensures { result.items ≡ plain_text form (seconds (stamp_micros stamp)) }
 {
-    let mut text = ArrayVec::new();
     match form {
-        Format::Line => push_stamp(&mut text, stamp),
-        Format::Record => push_seconds(&mut text, stamp.micros()),
-        Format::Object => return seconds_number(stamp.micros()),
+        Format::Line(clock) => moment_of(clock, stamp),
+        Format::Record => {
+            let mut text = ArrayVec::new();
+            push_seconds(&mut text, stamp.micros());
+            text
+        }
+        Format::Object => seconds_number(stamp.micros()),
+    }
+}
+
+fn moment_of(clock: Clock, stamp: Stamp) -> Short
+    ensures { result.items ≡ moment_text clock (stamp_micros stamp) }
+{
+    let mut text = ArrayVec::new();
+    match clock {
+        Clock::Seconds => push_stamp(&mut text, stamp),
+        Clock::Utc => push_bytes(&mut text, utc_text(stamp).as_slice()),
     }
     text
 }

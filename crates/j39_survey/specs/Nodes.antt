@@ -4,6 +4,7 @@ use Rattle.j39_frame.specs.Frame.{FrameRecord}
 use Rattle.j39_listen.specs.Filter.{is_sender}
 use Rattle.j39_listen.specs.Output.{Making}
 use Rattle.j39_listen.specs.declared.filter.Sender.{Sender}
+use Rattle.j39_listen.specs.declared.format.Clock.TheVariants.{Seconds}
 use Rattle.j39_listen.specs.declared.format.Format.TheVariants.{Line}
 use Rattle.j39_survey.specs.ByAddress.{AreShown, lines_of, shown_from}
 use Rattle.j39_rows.specs.Row.{name_column}
@@ -29,7 +30,7 @@ node_head address = record { name = codes "address"; first = address_word addres
 
 -- the line of a node: the address, and the NAME
 abbrev pub node_text : Holding → List ℕ
-node_text node = row_text Line (node_head node.address) (name_column (Some node.name) ∷ [])
+node_text node = row_text (Line Seconds) (node_head node.address) (name_column (Some node.name) ∷ [])
 
 -- it is meant by its address or by its NAME
 abbrev pub is_node : Holding → Sender → Bool

@@ -112,7 +112,7 @@ survey_names =
     codes "record,lines,interface,pgn,frames,first_stamp,first_utc,last_stamp,last_utc,back,announced,whole,addresses,least,mean,most,since_stamp,since_utc,class,group,standard,remote,fd,error,odd,line,text\r\n"
 
 abbrev pub names_in : Format → List ℕ
-names_in Line = []
+names_in (Line clock) = []
 names_in Record = survey_names
 names_in Object = []
 
@@ -221,7 +221,7 @@ abbrev pub note_row : SurveyRow
 note_row = record no_row { kind = codes "note"; text = text printed_words }
 
 abbrev pub note_text : Format → List ℕ
-note_text Line = printed_words ++ (newline ∷ [])
+note_text (Line clock) = printed_words ++ (newline ∷ [])
 note_text Record = row_in Record note_row
 note_text Object = row_in Object note_row
 

@@ -14,6 +14,7 @@ use Rattle.j39_listen.specs.Output.{Making, Output}
 use Rattle.j39_listen.specs.Report.{entry_text}
 use Rattle.j39_listen.specs.Run.{Writes, WritesFront, run_bus}
 use Rattle.j39_listen.specs.declared.counts.Counts.{Counts}
+use Rattle.j39_listen.specs.declared.format.Clock.TheVariants.{Seconds}
 use Rattle.j39_listen.specs.declared.running.RunFault.{RunFault}
 use Rattle.j39_listen.specs.declared.running.RunFault.TheVariants.{Memory, Read, Write, TooLong}
 use Rattle.j39_groups.specs.Row.{RowRecord}
@@ -39,7 +40,7 @@ makes_one Report rows = whole_one (λ table. entry_text) rows
 makes_one Records rows = λ bus F x y (a, made_a, is_a) (b, made_b, is_b).
     ap (λ (o : Output). o.text) is_a ∙ ap (λ t. header_text ++ t) (report_one entry_record (record { rows = rows; which = no_filter }) bus F a b made_a made_b) ∙ sym (ap (λ (o : Output). o.text) is_b)
 makes_one Summary rows = records_one no_filter rows
-makes_one Faults rows = news_one (record { manner = record { rows = rows; spns = None }; which = news })
+makes_one Faults rows = news_one Seconds (record { manner = record { rows = rows; spns = None }; which = news })
 makes_one (Series of) rows = whole_one (series_form of) rows
 
 first : ℕ → List ℕ → ℕ

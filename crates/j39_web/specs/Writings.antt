@@ -5,6 +5,7 @@ use Rattle.j39_listen.specs.Asking.{AsksForBoxes, Wanting}
 use Rattle.j39_listen.specs.Filter.{no_filter}
 use Rattle.j39_listen.specs.Headed.{Headed}
 use Rattle.j39_listen.specs.Output.{Making, MakesReport}
+use Rattle.j39_listen.specs.declared.format.Clock.TheVariants.{Seconds}
 use Rattle.j39_listen.specs.declared.format.Format.TheVariants.{Line, Record}
 use Rattle.j39_reports.specs.EntryText.{header_text}
 use Rattle.j39_fault_reports.specs.FaultAsking.{AsksForFaults}
@@ -26,7 +27,7 @@ abbrev pub makes : Writing → List RowRecord → Making
 makes Report = MakesReport
 makes Records = MakesTable
 makes Summary = MakesSummary Record no_filter
-makes Faults = λ rows. MakesFaults Line (record { rows = rows; spns = None }) news
+makes Faults = λ rows. MakesFaults (Line Seconds) (record { rows = rows; spns = None }) news
 makes (Series of) = MakesSeries of
 
 -- at which frames memory is wanted

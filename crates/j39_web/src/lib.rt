@@ -12,6 +12,7 @@ ghost use Rattle.j39_listen.specs.Asking.{AsksForBoxes};
 ghost use Rattle.j39_listen.specs.Filter.{no_filter};
 ghost use Rattle.j39_survey.specs.SeenNodes.{MakesSeenNodes, long_silence};
 ghost use Rattle.j39_listen.specs.Output.{MakesReport};
+ghost use Rattle.j39_listen.specs.declared.format.Clock.TheVariants.{Seconds};
 ghost use Rattle.j39_listen.specs.declared.format.Format.TheVariants.{Line, Record};
 ghost use Rattle.j39_reports.specs.SummaryRun.{AsksForRows, MakesSummary};
 ghost use Rattle.j39_table.specs.FaultWords.{fault_text};
@@ -151,7 +152,7 @@ pub extern "C" fn j39_faults(
 ) -> u32
     // What is written is the faults that are told in the log's frames. Memory is wanted at a frame that announces a
     // message, and at one at which an address says its codes for the first time.
-    ensures { Tells (ByTable table.now) (λ rows. MakesFaults Line (record { rows = rows; spns = None }) news)
+    ensures { Tells (ByTable table.now) (λ rows. MakesFaults (Line Seconds) (record { rows = rows; spns = None }) news)
         (λ _. AsksSomewhere (AsksForFaults News no_filter) (given_bus bus.now) log.now)
         log.now bus.now table.now room.old room.new text.old text.new result }
 {
@@ -163,11 +164,11 @@ pub extern "C" fn j39_faults(
 #[unsafe(no_mangle)]
 pub extern "C" fn j39_nodes(log: &[u8], bus: &[u8], room: &mut [u8], text: &mut LogText) -> u32
     // What stands at the front of the room is who holds an address after the log's frames, and nothing else.
-    ensures nodes { result ≡ done → IsMade (MakesSeenNodes (record { form = Line; silence = long_silence; from = None })) (given_bus bus.now) log.now text.new room.new }
+    ensures nodes { result ≡ done → IsMade (MakesSeenNodes (record { form = Line Seconds; silence = long_silence; from = None })) (given_bus bus.now) log.now text.new room.new }
 
     // The room is too small exactly where that text has as many bytes, or more.
     ensures fits { result ≡ done → text.new.bytes < length room.new }
-    ensures too_small { result ≡ too_small → Overflows (MakesSeenNodes (record { form = Line; silence = long_silence; from = None })) (given_bus bus.now) log.now room.new }
+    ensures too_small { result ≡ too_small → Overflows (MakesSeenNodes (record { form = Line Seconds; silence = long_silence; from = None })) (given_bus bus.now) log.now room.new }
 
     ensures bus { (result ≡ wrong_bus) ↔ IsWrongBus bus.now }
     ensures answers { result ≤ wrong_bus }
@@ -195,12 +196,12 @@ pub extern "C" fn j39_survey(
 ) -> u32
     // What stands at the front of the room is the survey of the log's lines, and nothing else.
     ensures survey { result ≡ done → ByTable table.now
-        (λ rows. IsSurveyed (record { form = Line; table = rows; given = given_bus bus.now }) log.now text.new room.new) }
+        (λ rows. IsSurveyed (record { form = Line Seconds; table = rows; given = given_bus bus.now }) log.now text.new room.new) }
 
     // The room is too small exactly where the survey has as many bytes, or more.
     ensures fits { result ≡ done → text.new.bytes < length room.new }
     ensures too_small { result ≡ too_small → ByTable table.now
-        (λ rows. SurveyOverflows (record { form = Line; table = rows; given = given_bus bus.now }) log.now room.new) }
+        (λ rows. SurveyOverflows (record { form = Line Seconds; table = rows; given = given_bus bus.now }) log.now room.new) }
 
     ensures memory { result ≡ no_memory → WantsRows table.now ⊎ ByTable table.now (λ _. ⊤) }
     ensures bus { (result ≡ wrong_bus) ↔ IsWrongBus bus.now }

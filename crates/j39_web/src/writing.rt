@@ -10,7 +10,7 @@ use crate::series::series;
 use j39_fault_reports::{Choice, FaultCounts, Telling, faults};
 use j39_groups::Groups;
 use j39_io::{Sink, Source};
-use j39_listen::{Counts, Format, RunFault, run_with};
+use j39_listen::{Clock, Counts, Format, RunFault, run_with};
 use j39_log::Bus;
 use j39_reports::{report_csv, summary};
 use std::alloc::Global;
@@ -64,7 +64,7 @@ impl Writing {
                     filter: None,
                     spns: None,
                 };
-                let format = Format::Line;
+                let format = Format::Line(Clock::Seconds);
                 counts_of(faults(alloc, groups, format, choice, source, sink, bus, limit))
             }
             Writing::Series(of) => series(alloc, groups, of, source, sink, bus, limit),

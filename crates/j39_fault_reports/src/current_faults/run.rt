@@ -51,7 +51,7 @@ pub fn faults_now<R: Source, W: Sink>(
     let form = format;
     let account = FaultsNow::new(alloc, Writing { form, groups, spns }, conversions, filter);
     match format {
-        Format::Line => {
+        Format::Line(_) => {
             let (ran, account) = run_keeping(account, source, sink, bus, limit);
             counted(ran, account.broken())
         }

@@ -64,7 +64,7 @@ pub fn faults<R: Source, W: Sink>(
     let (form, spns) = (format, choice.spns);
     let account = FaultNews::new(alloc, Writing { form, groups, spns }, choice);
     match format {
-        Format::Line => {
+        Format::Line(_) => {
             let (ran, news) = run_keeping(account, source, sink, bus, limit);
             counted(ran, news.broken())
         }

@@ -59,7 +59,7 @@ pub fn summary<R: Source, W: Sink>(
 {
     let account = SummaryAccount::new(alloc, groups, filter, format);
     match format {
-        Format::Line => run_over(account, source, sink, bus, limit),
+        Format::Line(_) => run_over(account, source, sink, bus, limit),
         Format::Record => run_headed(COLUMNS, account, source, sink, bus, limit),
         Format::Object => run_over(account, source, sink, bus, limit),
     }

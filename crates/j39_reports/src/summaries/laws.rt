@@ -6,6 +6,7 @@ ghost use Rattle.j39_groups.specs.Row.{RowRecord};
 ghost use Rattle.j39_listen.specs.Filter.{FilterRecord};
 ghost use Rattle.j39_listen.specs.Output.{Output};
 ghost use Rattle.j39_listen.specs.Report.{Entry};
+ghost use Rattle.j39_listen.specs.declared.format.Clock.{Clock};
 ghost use Rattle.j39_listen.specs.declared.format.Format.TheVariants.{Line};
 ghost use Rattle.j39_reports.specs.Bounds.{IsLeast, IsMost};
 ghost use Rattle.j39_reports.specs.SummaryRun.{MakesSummary};
@@ -17,10 +18,10 @@ use j39_listen::laws::{one_report, some_report};
 
 /// By each table and filter a list of frames has one summary in lines: at most one, and at least one.
 pub fn one_summary()
-    ensures at_most { (which : FilterRecord) (groups : List RowRecord) (bus : List ℕ) (F : List FrameRecord) (x y : Output)
-        → MakesSummary Line which groups bus F x → MakesSummary Line which groups bus F y → x ≡ y }
-    ensures at_least { (which : FilterRecord) (groups : List RowRecord) (bus : List ℕ) (F : List FrameRecord)
-        → (x : Output) × MakesSummary Line which groups bus F x }
+    ensures at_most { (clock : Clock) (which : FilterRecord) (groups : List RowRecord) (bus : List ℕ) (F : List FrameRecord) (x y : Output)
+        → MakesSummary (Line clock) which groups bus F x → MakesSummary (Line clock) which groups bus F y → x ≡ y }
+    ensures at_least { (clock : Clock) (which : FilterRecord) (groups : List RowRecord) (bus : List ℕ) (F : List FrameRecord)
+        → (x : Output) × MakesSummary (Line clock) which groups bus F x }
 {
     one_report();
     some_report();

@@ -75,7 +75,7 @@ pub fn nodes_seen<R: Source, W: Sink>(
 {
     let list = SeenList::new(asked);
     match asked.format {
-        Format::Line => run_over(list, source, sink, bus, limit),
+        Format::Line(_) => run_over(list, source, sink, bus, limit),
         Format::Record => run_headed(COLUMNS, list, source, sink, bus, limit),
         Format::Object => run_over(list, source, sink, bus, limit),
     }

@@ -90,7 +90,7 @@ fn names_in(form: Format) -> &'static [u8]
     ensures { result.now ≡ names_in form }
 {
     match form {
-        Format::Line => b"",
+        Format::Line(_) => b"",
         Format::Record => NAMES,
         Format::Object => b"",
     }
@@ -346,7 +346,7 @@ fn put_note<W: Sink>(form: Format, sink: &mut W) -> Result<(), DeviceFault>
         ..NO_ROW
     };
     match form {
-        Format::Line => {
+        Format::Line(_) => {
             let parts: [&[u8]; 2] = [PRINTED, b"\n"];
             put_parts(&parts, sink)
         }

@@ -11,7 +11,7 @@ pub returns-in_err-asked-clause-read : goal.returns-in_err-asked-clause-read
 returns-in_err-asked-clause-read c =
     let texts = rows_found (found_of c.args.given.now) in
     let next = OrMemory (AreOptions texts) in
-    let forms = forms_check texts.csv texts.json ∷ [] in
+    let forms = forms_check texts.csv texts.json texts.utc ∷ [] in
     passed next (bus_check texts.bus ∷ []) (asked_checks texts.asked ++ forms) _ _ _ c.in_ok-bus.ensures.read (λ _.
     stopped next (asked_checks texts.asked) forms _ _ _ c.in_err-asked.ensures.read c.from_residual-in_err-asked.ensures)
 
@@ -19,7 +19,7 @@ pub returns-in_err-format-clause-read : goal.returns-in_err-format-clause-read
 returns-in_err-format-clause-read c =
     let texts = rows_found (found_of c.args.given.now) in
     let next = OrMemory (AreOptions texts) in
-    let forms = forms_check texts.csv texts.json ∷ [] in
+    let forms = forms_check texts.csv texts.json texts.utc ∷ [] in
     passed next (bus_check texts.bus ∷ []) (asked_checks texts.asked ++ forms) _ _ _ c.in_ok-bus.ensures.read (λ _.
     passed next (asked_checks texts.asked) forms _ _ _ c.in_ok-asked.ensures.read (λ _.
     stopped next forms [] _ _ _ c.in_err-format.ensures.read c.from_residual-in_err-format.ensures))
@@ -28,7 +28,7 @@ pub returns-in-Ok-clause-read : goal.returns-in-Ok-clause-read
 returns-in-Ok-clause-read c =
     let texts = rows_found (found_of c.args.given.now) in
     let next = OrMemory (AreOptions texts) in
-    let forms = forms_check texts.csv texts.json ∷ [] in
+    let forms = forms_check texts.csv texts.json texts.utc ∷ [] in
     passed next (bus_check texts.bus ∷ []) (asked_checks texts.asked ++ forms) _ _ _ c.in_ok-bus.ensures.read (λ bus_is.
     passed next (asked_checks texts.asked) forms _ _ _ c.in_ok-asked.ensures.read (λ asked_is.
     passed next forms [] _ _ _ c.in_ok-format.ensures.read (λ format_is. record {

@@ -1,4 +1,5 @@
 use Rattle.std.proofs.Common.{rules}
+use Rattle.j39_listen.specs.declared.format.Clock.TheVariants.{Seconds}
 use Rattle.j39_listen.specs.declared.format.Format.TheVariants.{Line}
 use Rattle.j39_web.proofs.RoomLemmas.{survey_overflows}
 use Rattle.j39_web.proofs.texts.survey.Goals as goal
@@ -6,6 +7,6 @@ use Rattle.j39_web.proofs.texts.survey.Goals as goal
 pub returns-clause-too_small : goal.returns-clause-too_small
 returns-clause-too_small c = λ fails.
     let ran = c.survey-ran.ensures in
-    survey_overflows (record { form = Line; table = c.args.groups.now; given = c.args.bus }) c.args.log.now c.new-source.result.rest.now c.survey-ran.result c.uncounted.result _ _ _ _ _ _ _
+    survey_overflows (record { form = Line Seconds; table = c.args.groups.now; given = c.args.bus }) c.args.log.now c.new-source.result.rest.now c.survey-ran.result c.uncounted.result _ _ _ _ _ _ _
     (search rules) (search rules) ran.ran.writes ran.ran.cut_short (search rules) (search rules) (search rules) c.uncounted.ensures.ok c.uncounted.ensures.err
     (c.told.ensures.too_small fails) (search rules)
