@@ -2,7 +2,7 @@
 use Rattle.j39_fault_reports.proofs.Common.{◌≡◌, ◌∙◌, ◌+◌, ◌++◌, ◌∷◌, [], ℕ, List, Option, None, ap, append-nil, arith, length, length-append, refl, subst, sym, Appends, Appends-nil, filter-append, AppendsFront, Conversion, FrameRecord, Begins, Closes, MakesOne, Meets, StopsAtEnd, Chooses, capped, FilterRecord, first_stamp, in_time, AreHeardWith, Chooser, HeardAtWith, Hearing, or_none, Hears, Output, Format, Listener, heard_more, heard_below_unique}
 use Rattle.j39_fault_reports.specs.CurrentPlaces.{LastActives}
 use Rattle.j39_fault_reports.specs.CurrentSoFar.{AreKept, HasKept, NowSubject, TakesFrame, taken_below}
-use Rattle.j39_fault_reports.specs.FaultsNow.{faults_now, now_taken}
+use Rattle.j39_fault_reports.specs.FaultsNow.{now_taken, told_now}
 use Rattle.j39_fault_reports.specs.Spoken.{active_among, is_active_message}
 use Rattle.j39_fault_reports.specs.FaultsNowRun.{AsksForFaultsNow, MakesFaultsNowIn, faults_now_of, now_lines, now_text}
 use Rattle.j39_fault_reports.specs.FaultsSoFar.{manner_of, with_either, with_frame}
@@ -10,7 +10,7 @@ use Rattle.j39_fault_reports.specs.News.{is_fault_group}
 use Rattle.j39_fault_reports.specs.declared.fault_news.announced.Announced.{Announced}
 use Rattle.j39_fault_reports.specs.declared.current_faults.account.FaultsNow.{FaultsNow}
 use Rattle.j39_fault_reports.specs.declared.fault_news.form.Writing.{Writing}
-use Rattle.j39_fault_reports.proofs.CurrentLemmas.{shown_all}
+use Rattle.j39_fault_reports.proofs.CurrentLemmas.{told_all}
 use Rattle.j39_fault_reports.proofs.FaultAccountLemmas.{announced_more, faults_leave, in_time-append, same_times}
 
 -- ---- laws
@@ -93,9 +93,9 @@ abbrev pub written_by : FaultsNow → FilterRecord → List FrameRecord → List
 written_by a which F = now_text a.writing.form (manner_of a.writing) (taken_below which (first_stamp F) a.places 256)
 
 all_taken : (form : Format) (s : NowSubject) (a : FaultsNow) (F : List FrameRecord) (before : Output) → (has : HasKept form s a F before)
-    → taken_below s.which (first_stamp F) a.places 256 ≡ now_taken s.which (first_stamp F) (faults_now s.conversions (in_time s.which (first_stamp F) (active_among has.heard)))
+    → taken_below s.which (first_stamp F) a.places 256 ≡ now_taken s.which (first_stamp F) (told_now s.conversions (in_time s.which (first_stamp F) (active_among has.heard)))
 all_taken form s a F before has =
-    ap (now_taken s.which (first_stamp F)) (shown_all s.conversions (in_time s.which (first_stamp F) (active_among has.heard)) a.places has.are_kept 256 (omega arith))
+    ap (now_taken s.which (first_stamp F)) (told_all s.conversions (in_time s.which (first_stamp F) (active_among has.heard)) a.places has.are_kept 256 (omega arith))
 
 all_text : (form : Format) (s : NowSubject) (a : FaultsNow) (F : List FrameRecord) (before : Output) → (has : HasKept form s a F before)
     → written_by a s.which F ≡ (faults_now_of form s.manner s.conversions s.which (first_stamp F) (active_among has.heard)).text

@@ -1,18 +1,23 @@
 -- The lines of the faults that are there now, one behind the other.
-use Rattle.j39_fault_reports.proofs.Common.{◌≡◌, ◌∙◌, ◌+◌, ◌-◌, ◌<◌, ◌++◌, ◌∷◌, [], ℕ, zero, suc, Bool, true, false, List, Result, Ok, Err, Some, append-nil, append_assoc, ap, arith, length, map, refl, sym, take, IsErr, slice_index_or, flat_map, cond-true, cond-false, flat_map-append, filter-append, Puts, Device, puts_as, puts_done, puts_first, puts_then, puts_until, flat_map-next, capped, FilterRecord, asks_for, no_filter, Format, Active, Is, take-suc, map-append}
+use Rattle.j39_fault_reports.proofs.Common.{◌≡◌, ◌∙◌, ◌+◌, ◌-◌, ◌<◌, ◌++◌, ◌∷◌, [], ℕ, zero, suc, Bool, true, false, List, Result, Ok, Err, Some, append-nil, append_assoc, ap, arith, length, map, refl, sym, take, IsErr, slice_index_or, flat_map, cond-true, cond-false, if◌then◌else◌, ◌≤◌, flat_map-append, flat_map-map, length-map, count_by-le-length, filter-append, Puts, Device, puts_as, puts_done, puts_first, puts_then, puts_until, flat_map-next, capped, FilterRecord, asks_for, no_filter, Format, Active, Is, HeadRecord, take-suc, map-append}
+use Rattle.std.specs.Prelude.{bytes_eq}
+use Rattle.j39_faults.specs.Text.{lamps_told}
+use Rattle.j39_fault_reports.specs.FaultRows.{faults_text, message_head}
 use Rattle.j39_fault_reports.specs.CurrentPlaces.{LastRecord, LastActives, StandingRecord, at, standing_record}
-use Rattle.j39_fault_reports.specs.CurrentSoFar.{now_shown, nows_shown, shown_below, taken_below}
-use Rattle.j39_fault_reports.specs.FaultsNow.{Now, asks_now, now_taken}
-use Rattle.j39_fault_reports.specs.FaultsNowRun.{now_head, now_lines, now_text}
-use Rattle.j39_fault_reports.specs.Faults.{Manner, names_asked}
+use Rattle.j39_fault_reports.specs.CurrentSoFar.{lights_shown, now_shown, nows_shown, said_here, shown_below, taken_below, told_shown, told_so_far}
+use Rattle.j39_fault_reports.specs.FaultsNow.{Now, Told, asks_now, lit, named, now_taken}
+use Rattle.j39_fault_reports.specs.FaultsNowRun.{now_head, now_lines, now_text, told_asked, told_line}
+use Rattle.j39_fault_reports.specs.Faults.{Fault, Manner, lights, lights_since, lines_in, names_asked, says_asked}
 use Rattle.j39_listen.specs.Counting.{one_if}
 use Rattle.j39_listen.proofs.CountLemmas.{count_by-append, count_here}
-use Rattle.j39_fault_reports.specs.FaultsSoFar.{line_of}
+use Rattle.j39_fault_reports.specs.FaultsSoFar.{are_lit, lights_line, line_of}
+use Rattle.j39_fault_reports.proofs.FaultLineLemmas.{count_mapped}
+use Rattle.j39_fault_reports.proofs.LightLemmas.{lights_count, lights_text}
 use Rattle.j39_fault_reports.specs.declared.current_faults.standing.Standing.{Standing}
 
 -- ---- the text of one
 
-pub one_text : (form : Format) (rows : Manner) (n : Now) → line_of form (now_head n) rows (Is Active) n.lamps n.code ≡ now_text form rows (n ∷ [])
+pub one_text : (form : Format) (rows : Manner) (n : Now) → line_of form (now_head n) rows (Is Active) n.lamps n.code ≡ now_text form rows (named n ∷ [])
 unfolding now_text
 one_text form rows n = sym (append-nil _)
 
@@ -20,23 +25,35 @@ pub no_text : (form : Format) (rows : Manner) → now_text form rows [] ≡ []
 unfolding now_text
 no_text form rows = refl
 
-now_text-append : (form : Format) (rows : Manner) (xs ys : List Now) → now_text form rows (xs ++ ys) ≡ now_text form rows xs ++ now_text form rows ys
+pub now_text-append : (form : Format) (rows : Manner) (xs ys : List Told) → now_text form rows (xs ++ ys) ≡ now_text form rows xs ++ now_text form rows ys
 unfolding now_text
 now_text-append form rows xs ys = flat_map-append _ xs ys
+
+-- of faults
+pub text_of_faults : (form : Format) (rows : Manner) (fs : List Fault) → now_text form rows (map (λ f. lit f) fs) ≡ faults_text form rows fs
+unfolding now_text faults_text
+text_of_faults form rows fs = flat_map-map (told_line form rows) (λ (f : Fault). lit f) fs
 
 -- ---- what one message says
 
 module _ (form : Format) (rows : Manner) (a : ℕ) (last : LastRecord) where
+  abbrev as_told : Standing → Told
+  as_told s = named (now_shown a last (standing_record s))
+
+  -- the codes of these
+  abbrev pub named_by : List Standing → List Told
+  named_by ss = map (λ n. named n) (map (now_shown a last) (map standing_record ss))
+
   abbrev pub line : Standing → List ℕ
-  line s = now_text form rows (now_shown a last (standing_record s) ∷ [])
+  line s = now_text form rows (as_told s ∷ [])
 
   abbrev pub lines : List Standing → List ℕ
-  lines ss = now_text form rows (map (now_shown a last) (map standing_record ss))
+  lines ss = now_text form rows (named_by ss)
 
   lines_are : (ss : List Standing) → lines ss ≡ flat_map line ss
   lines_are [] = no_text form rows
   lines_are (s ∷ ss) =
-      now_text-append form rows (now_shown a last (standing_record s) ∷ []) (map (now_shown a last) (map standing_record ss)) ∙ ap (λ t. line s ++ t) (lines_are ss)
+      now_text-append form rows (as_told s ∷ []) (named_by ss) ∙ ap (λ t. line s ++ t) (lines_are ss)
 
   pub none_put : (ss : List Standing) → [] ≡ lines (take 0 ss)
   none_put ss = sym (no_text form rows)
@@ -51,13 +68,22 @@ module _ (form : Format) (rows : Manner) (a : ℕ) (last : LastRecord) where
 
   -- how many of them are asked for
   abbrev pub counted : List Standing → ℕ
-  counted ss = now_lines rows (map (now_shown a last) (map standing_record ss))
+  counted ss = now_lines rows (named_by ss)
 
   counted-append : (ss ts : List Standing) → counted (ss ++ ts) ≡ counted ss + counted ts
   counted-append ss ts =
-      ap (λ rs. now_lines rows (map (now_shown a last) rs)) (map-append standing_record ss ts)
-      ∙ ap (now_lines rows) (map-append (now_shown a last) (map standing_record ss) (map standing_record ts))
-      ∙ count_by-append (λ (n : Now). names_asked rows.spns n.code) (map (now_shown a last) (map standing_record ss)) (map (now_shown a last) (map standing_record ts))
+      ap (λ rs. now_lines rows (map (λ n. named n) (map (now_shown a last) rs))) (map-append standing_record ss ts)
+      ∙ ap (λ ns. now_lines rows (map (λ n. named n) ns)) (map-append (now_shown a last) (map standing_record ss) (map standing_record ts))
+      ∙ ap (now_lines rows) (map-append (λ (n : Now). named n) (map (now_shown a last) (map standing_record ss)) (map (now_shown a last) (map standing_record ts)))
+      ∙ count_by-append (told_asked rows) (named_by ss) (named_by ts)
+
+  -- no more than these
+  pub few_counted : (ss : List Standing) → counted ss ≤ length ss
+  few_counted ss =
+      let few = count_by-le-length (told_asked rows) (named_by ss) in
+      let all : length (named_by ss) ≡ length ss = length-map (map (now_shown a last) (map standing_record ss)) (λ (n : Now). named n)
+      ∙ length-map (map standing_record ss) (now_shown a last) ∙ length-map ss standing_record in
+      omega (arith, few, all)
 
   pub count_more : (ss : List Standing) (i : ℕ) (s : Standing) (count n : ℕ) → i < length ss → s ≡ slice_index_or ss i s → count ≡ counted (take i ss)
       → n ≡ one_if (names_asked rows.spns s.code) → count + n ≡ counted (take (i + 1) ss)
@@ -65,7 +91,7 @@ module _ (form : Format) (rows : Manner) (a : ℕ) (last : LastRecord) where
       let next : i + 1 ≡ suc i = omega arith in
       let more : take (i + 1) ss ≡ take i ss ++ s ∷ [] = ap (λ k. take k ss) next ∙ take-suc ss i s below ∙ ap (λ x. take i ss ++ x ∷ []) (sym is) in
       let sum = ap counted more ∙ counted-append (take i ss) (s ∷ []) in
-      let here : n ≡ counted (s ∷ []) = one ∙ count_here (λ (m : Now). names_asked rows.spns m.code) (now_shown a last (standing_record s)) in
+      let here : n ≡ counted (s ∷ []) = one ∙ count_here (told_asked rows) (as_told s) in
       omega (arith, sum, so_far, here)
 
   pub line_stops : {T U E F G : Type 0} (ss : List Standing) (i : ℕ) (s : Standing) (e : E) (end : Result U F) (old mid new : Device)
@@ -76,6 +102,29 @@ module _ (form : Format) (rows : Manner) (a : ℕ) (last : LastRecord) where
       puts_as _ _ _ _ (sym (lines_are ss)) (puts_until {V = T} line ss i s tt e end old mid new below failed
       (puts_as _ _ _ _ (lines_are (take i ss)) before) (puts_as _ _ _ _ (ap line is) here))
 
+-- ---- the lamps before the codes of the last message of an address
+
+module _ (form : Format) (rows : Manner) (a : ℕ) (view last : LastRecord) (same : view ≡ last) (head : HeadRecord)
+    (is : head ≡ message_head view.stamp a view.destination view.name) where
+  abbrev its_codes : List Told
+  its_codes = map (λ n. named n) (nows_shown a (Some last))
+
+  head_is : head ≡ message_head last.stamp a last.destination last.name
+  head_is = is ∙ ap (λ (l : LastRecord). message_head l.stamp a l.destination l.name) same
+
+  pub lit_text : lights_line form head rows [] view.lamps ++ now_text form rows its_codes ≡ now_text form rows (told_shown a (Some last))
+  lit_text = ap (λ (l : LastRecord). lights_line form head rows [] l.lamps ++ now_text form rows its_codes) same
+      ∙ ap (λ t. t ++ now_text form rows its_codes) (lights_text form rows [] last.lamps (said_here a last) head refl head_is ∙ sym (text_of_faults form rows (lights_shown a (Some last))))
+      ∙ sym (now_text-append form rows (map (λ f. lit f) (lights_shown a (Some last))) its_codes)
+
+  pub lit_count : (n k : ℕ) → n ≡ one_if (are_lit rows [] view.lamps) → k ≡ now_lines rows its_codes → n + k ≡ now_lines rows (told_shown a (Some last))
+  lit_count n k here more =
+      let all = count_by-append (told_asked rows) (map (λ f. lit f) (lights_shown a (Some last))) its_codes in
+      let lights : now_lines rows (map (λ f. lit f) (lights_shown a (Some last))) ≡ one_if (are_lit rows [] last.lamps) =
+      count_mapped (told_asked rows) (λ (f : Fault). lit f) (lights_shown a (Some last)) ∙ lights_count form rows [] last.lamps (said_here a last) head refl head_is in
+      let as : one_if (are_lit rows [] view.lamps) ≡ one_if (are_lit rows [] last.lamps) = ap (λ (l : LastRecord). one_if (are_lit rows [] l.lamps)) same in
+      omega (arith, all, lights, as, here, more)
+
 -- ---- what stands at the places
 
 module _ (places : LastActives) where
@@ -83,13 +132,17 @@ module _ (places : LastActives) where
   unfolding shown_below
   shown_next n = (let next : n + 1 ≡ suc n = omega arith in ap (shown_below places) next)
 
-  pub shown_rest : (n k : ℕ) → (rest : List Now) × (shown_below places (k + n) ≡ shown_below places n ++ rest)
-  unfolding shown_below
-  shown_rest n zero = ([], (let same : 0 + n ≡ n = omega arith in ap (shown_below places) same ∙ sym (append-nil (shown_below places n))))
-  shown_rest n (suc k) =
+  told_next : (n : ℕ) → told_so_far places (n + 1) ≡ told_so_far places n ++ told_shown n (at places n)
+  unfolding told_so_far
+  told_next n = (let next : n + 1 ≡ suc n = omega arith in ap (told_so_far places) next)
+
+  told_rest : (n k : ℕ) → (rest : List Told) × (told_so_far places (k + n) ≡ told_so_far places n ++ rest)
+  unfolding told_so_far
+  told_rest n zero = ([], (let same : 0 + n ≡ n = omega arith in ap (told_so_far places) same ∙ sym (append-nil (told_so_far places n))))
+  told_rest n (suc k) =
       let next : suc k + n ≡ suc (k + n) = omega arith in
-      let r = shown_rest n k in
-      (r.0 ++ nows_shown (k + n) (at places (k + n)), ap (shown_below places) next ∙ ap (λ ns. ns ++ nows_shown (k + n) (at places (k + n))) r.1 ∙ append_assoc (shown_below places n) r.0 (nows_shown (k + n) (at places (k + n))))
+      let r = told_rest n k in
+      (r.0 ++ told_shown (k + n) (at places (k + n)), ap (told_so_far places) next ∙ ap (λ ns. ns ++ told_shown (k + n) (at places (k + n))) r.1 ∙ append_assoc (told_so_far places n) r.0 (told_shown (k + n) (at places (k + n))))
 
 -- ---- of what stands there, what is asked for
 
@@ -97,26 +150,26 @@ module _ (form : Format) (rows : Manner) (which : FilterRecord) (first : ℕ) (p
   abbrev pub text : ℕ → List ℕ
   text n = now_text form rows (taken_below which first places n)
 
-  abbrev taken_at : ℕ → List Now
-  taken_at n = now_taken which first (nows_shown n (at places n))
+  abbrev taken_at : ℕ → List Told
+  taken_at n = now_taken which first (told_shown n (at places n))
 
   taken_next : (n : ℕ) → taken_below which first places (n + 1) ≡ taken_below which first places n ++ taken_at n
-  taken_next n = ap (now_taken which first) (shown_next places n) ∙ filter-append (asks_now which first) (shown_below places n) (nows_shown n (at places n))
+  taken_next n = ap (now_taken which first) (told_next places n) ∙ filter-append (asks_now which first) (told_so_far places n) (told_shown n (at places n))
 
-  taken_rest : (n k : ℕ) → (rest : List Now) × (taken_below which first places (k + n) ≡ taken_below which first places n ++ rest)
+  taken_rest : (n k : ℕ) → (rest : List Told) × (taken_below which first places (k + n) ≡ taken_below which first places n ++ rest)
   taken_rest n k =
-      let r = shown_rest places n k in
-      (now_taken which first r.0, ap (now_taken which first) r.1 ∙ filter-append (asks_now which first) (shown_below places n) r.0)
+      let r = told_rest places n k in
+      (now_taken which first r.0, ap (now_taken which first) r.1 ∙ filter-append (asks_now which first) (told_so_far places n) r.0)
 
   text_next : (n : ℕ) → text (n + 1) ≡ text n ++ now_text form rows (taken_at n)
   text_next n = ap (now_text form rows) (taken_next n) ∙ now_text-append form rows (taken_below which first places n) (taken_at n)
 
   pub no_places : [] ≡ text 0
-  unfolding shown_below
+  unfolding told_so_far
   no_places = sym (no_text form rows)
 
   pub no_lines : 0 ≡ capped (now_lines rows (taken_below which first places 0))
-  unfolding shown_below
+  unfolding told_so_far
   no_lines = refl
 
   pub place_more : {T E F G : Type 0} (n : ℕ) (x : T) (old mid new : Device)
@@ -141,7 +194,7 @@ module _ (form : Format) (rows : Manner) (which : FilterRecord) (first : ℕ) (p
       → capped (lines + here) ≡ capped (now_lines rows (taken_below which first places (n + 1)))
   lines_more n lines here so_far is =
       let len : now_lines rows (taken_below which first places (n + 1)) ≡ now_lines rows (taken_below which first places n) + now_lines rows (taken_at n) =
-      ap (now_lines rows) (taken_next n) ∙ count_by-append (λ (m : Now). names_asked rows.spns m.code) (taken_below which first places n) (taken_at n) in
+      ap (now_lines rows) (taken_next n) ∙ count_by-append (told_asked rows) (taken_below which first places n) (taken_at n) in
       omega (arith, len, so_far, is)
 
 -- ---- what the last message of an address says is asked for as a whole, or not at all
@@ -150,21 +203,38 @@ module _ (which : FilterRecord) (first a : ℕ) (last : LastRecord) where
   abbrev is_asked : Bool
   is_asked = asks_for which first last.stamp a last.name last.destination last.pgn
 
-  all_asked : is_asked ≡ true → (ss : List StandingRecord) → now_taken which first (map (now_shown a last) ss) ≡ map (now_shown a last) ss
-  all_asked is [] = refl
-  all_asked is (s ∷ ss) = cond-true _ _ _ is ∙ ap (λ ns. now_shown a last s ∷ ns) (all_asked is ss)
+  abbrev codes_told : List StandingRecord → List Told
+  codes_told ss = map (λ n. named n) (map (now_shown a last) ss)
 
-  none_asked : is_asked ≡ false → (ss : List StandingRecord) → now_taken which first (map (now_shown a last) ss) ≡ []
-  none_asked isnt [] = refl
-  none_asked isnt (s ∷ ss) = cond-false _ _ _ isnt ∙ none_asked isnt ss
+  abbrev lights_told : Bool → List Told
+  lights_told b = map (λ f. lit f) (if b then [] else said_here a last (lights last.lamps) ∷ [])
 
-  pub asked_there : is_asked ≡ true → now_taken which first (nows_shown a (Some last)) ≡ nows_shown a (Some last)
-  asked_there is = all_asked is last.standings
+  codes_asked : is_asked ≡ true → (ss : List StandingRecord) → now_taken which first (codes_told ss) ≡ codes_told ss
+  codes_asked is [] = refl
+  codes_asked is (s ∷ ss) = cond-true _ _ _ is ∙ ap (λ ns. named (now_shown a last s) ∷ ns) (codes_asked is ss)
 
-  pub unasked_there : is_asked ≡ false → now_taken which first (nows_shown a (Some last)) ≡ []
-  unasked_there isnt = none_asked isnt last.standings
+  lights_asked : is_asked ≡ true → (b : Bool) → now_taken which first (lights_told b) ≡ lights_told b
+  lights_asked is true = refl
+  lights_asked is false = cond-true _ _ _ is
+
+  no_codes : is_asked ≡ false → (ss : List StandingRecord) → now_taken which first (codes_told ss) ≡ []
+  no_codes isnt [] = refl
+  no_codes isnt (s ∷ ss) = cond-false _ _ _ isnt ∙ no_codes isnt ss
+
+  no_lights : is_asked ≡ false → (b : Bool) → now_taken which first (lights_told b) ≡ []
+  no_lights isnt true = refl
+  no_lights isnt false = cond-false _ _ _ isnt
+
+  pub asked_there : is_asked ≡ true → now_taken which first (told_shown a (Some last)) ≡ told_shown a (Some last)
+  asked_there is = filter-append (asks_now which first) (lights_told (bytes_eq (lamps_told last.lamps) [])) (codes_told last.standings)
+      ∙ (λ i. lights_asked is (bytes_eq (lamps_told last.lamps) []) i ++ codes_asked is last.standings i)
+
+  pub unasked_there : is_asked ≡ false → now_taken which first (told_shown a (Some last)) ≡ []
+  unasked_there isnt = filter-append (asks_now which first) (lights_told (bytes_eq (lamps_told last.lamps) [])) (codes_told last.standings)
+      ∙ (λ i. no_lights isnt (bytes_eq (lamps_told last.lamps) []) i ++ no_codes isnt last.standings i)
 
 -- without a filter all is taken
-pub taken_all : (first : ℕ) (faults : List Now) → now_taken no_filter first faults ≡ faults
+pub taken_all : (first : ℕ) (faults : List Told) → now_taken no_filter first faults ≡ faults
 taken_all first [] = refl
-taken_all first (n ∷ faults) = ap (λ ns. n ∷ ns) (taken_all first faults)
+taken_all first (lit f ∷ faults) = ap (λ ts. lit f ∷ ts) (taken_all first faults)
+taken_all first (named n ∷ faults) = ap (λ ts. named n ∷ ts) (taken_all first faults)

@@ -1,5 +1,5 @@
 -- The text of what the last messages of active codes name, what a run makes of the frames, and where it may want memory.
-use Rattle.std.specs.Prelude.{◌≡◌, ◌⊎◌, ◌++◌, ◌∷◌, [], true, ℕ, List, codes, count_by, if◌then◌else◌, length}
+use Rattle.std.specs.Prelude.{◌≡◌, ◌⊎◌, ◌++◌, ◌∷◌, [], true, Bool, ℕ, List, codes, count_by, if◌then◌else◌, length}
 use Rattle.std.specs.List.{flat_map}
 use Rattle.j39_frame.specs.Frame.{FrameRecord}
 use Rattle.j39_faults.specs.declared.conversion.Conversion.{Conversion}
@@ -11,11 +11,11 @@ use Rattle.j39_listen.specs.Headed.{Columned}
 use Rattle.j39_listen.specs.Heard.{AreHeardWith, Hearing, IsHeardWith}
 use Rattle.j39_listen.specs.Output.{Making, Output}
 use Rattle.j39_listen.specs.declared.format.Format.{Format}
-use Rattle.j39_fault_reports.specs.FaultRows.{said_columns}
+use Rattle.j39_fault_reports.specs.FaultRows.{fault_in, said_columns}
 use Rattle.j39_rows.specs.Row.{dash, name_column}
-use Rattle.j39_fault_reports.specs.Faults.{Manner, names_asked}
+use Rattle.j39_fault_reports.specs.Faults.{Manner, names_asked, says_asked}
 use Rattle.j39_rows.specs.Row.{HeadRecord, address_cell, beside_lines, in_all, number_cell, row_text, seconds, seconds_cell, utc_cell}
-use Rattle.j39_fault_reports.specs.FaultsNow.{Now, faults_now, now_taken}
+use Rattle.j39_fault_reports.specs.FaultsNow.{Now, Told, lit, named, now_taken, told_now}
 use Rattle.j39_fault_reports.specs.Spoken.{active_among, is_active_message, spoken_in}
 use Rattle.j39_fault_reports.specs.News.{is_fault_group}
 
@@ -39,18 +39,26 @@ abbrev pub now_line : Format → Manner → Now → List ℕ
 now_line form manner n =
     if names_asked manner.spns n.code then row_text form (now_head n) (said_columns manner.rows (Is Active) n.lamps n.code) else []
 
-unfoldable pub now_text : Format → Manner → List Now → List ℕ
-now_text form manner ns = flat_map (now_line form manner) ns
+abbrev pub told_line : Format → Manner → Told → List ℕ
+told_line form manner (lit f) = fault_in form manner f
+told_line form manner (named n) = now_line form manner n
 
-abbrev pub now_lines : Manner → List Now → ℕ
-now_lines manner ns = count_by (λ n. names_asked manner.spns n.code) ns
+unfoldable pub now_text : Format → Manner → List Told → List ℕ
+now_text form manner ts = flat_map (told_line form manner) ts
+
+abbrev pub told_asked : Manner → Told → Bool
+told_asked manner (lit f) = says_asked manner f
+told_asked manner (named n) = names_asked manner.spns n.code
+
+abbrev pub now_lines : Manner → List Told → ℕ
+now_lines manner ts = count_by (told_asked manner) ts
 
 -- of the messages between the moments what is asked for; each message of active codes counts
 abbrev pub faults_now_of : Format → Manner → List Conversion → FilterRecord → ℕ → List Hearing → Output
 faults_now_of form manner conversions which first ms = record {
-  text = now_text form manner (now_taken which first (faults_now conversions (in_time which first ms)));
+  text = now_text form manner (now_taken which first (told_now conversions (in_time which first ms)));
   messages = length ms;
-  lines = now_lines manner (now_taken which first (faults_now conversions (in_time which first ms)));
+  lines = now_lines manner (now_taken which first (told_now conversions (in_time which first ms)));
 }
 
 -- of the frames, whatever their bus is called, in either form

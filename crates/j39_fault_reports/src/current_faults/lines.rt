@@ -1,12 +1,12 @@
 //! The rows of the faults that are there now.
-ghost use Rattle.std.specs.Prelude.{◌≡◌, ◌<◌, ◌∷◌, [], IfOk, List, Some, codes, map};
+ghost use Rattle.std.specs.Prelude.{◌≡◌, ◌≤◌, ◌<◌, ◌∷◌, [], IfOk, List, Some, codes, map};
 ghost use Rattle.j39_io.specs.Device.{Marks};
 ghost use Rattle.j39_io.specs.Puts.{Puts};
 ghost use Rattle.j39_io.specs.Turn.{turn};
 ghost use Rattle.j39_frame.specs.Frame.{FrameRecord};
 ghost use Rattle.j39_listen.specs.Chooses.{Chooses};
 ghost use Rattle.j39_listen.specs.Filter.{FilterRecord, first_stamp};
-ghost use Rattle.j39_fault_reports.specs.FaultsNow.{now_taken};
+ghost use Rattle.j39_fault_reports.specs.FaultsNow.{named, now_taken};
 ghost use Rattle.j39_listen.specs.Counting.{capped};
 ghost use Rattle.j39_fault_reports.specs.FaultsNowRun.{now_head, now_lines, now_text};
 ghost use Rattle.j39_rows.specs.Models.{column_of, head_of};
@@ -16,13 +16,14 @@ ghost use Rattle.j39_fault_reports.specs.Faults.{names_asked};
 ghost use Rattle.j39_fault_reports.specs.FaultsSoFar.{manner_of, spns_now};
 ghost use Rattle.j39_listen.specs.Counting.{one_if};
 ghost use Rattle.j39_fault_reports.specs.CurrentPlaces.{at, standing_record};
-ghost use Rattle.j39_fault_reports.specs.CurrentSoFar.{now_shown, nows_shown, taken_below};
+ghost use Rattle.j39_fault_reports.specs.CurrentSoFar.{now_shown, nows_shown, taken_below, told_shown};
 
 use crate::current_faults::last_active::LastActive;
 use crate::current_faults::last_actives::{LastActives, SOURCES};
 use crate::current_faults::standing::Standing;
 use crate::fault_news::form::{Saying, Writing};
-use crate::fault_news::lines::put_fault;
+use crate::fault_news::columns::{moment_head, sender_columns};
+use crate::fault_news::lines::{put_fault, put_lights};
 use j39_address::Name;
 use j39_faults::{Kind, State};
 use j39_io::{DeviceFault, Sink};
@@ -60,10 +61,10 @@ fn put_place<W: Sink>(
 ) -> Result<u64, DeviceFault>
     requires { address < 256 }
     ensures lines { IfOk result (λ n. (which : FilterRecord) (F : List FrameRecord) → Chooses which chooser.now F
-        → n ≡ now_lines (manner_of writing.entry) (now_taken which (first_stamp F) (nows_shown address (at places.now address)))) }
+        → n ≡ now_lines (manner_of writing.entry) (now_taken which (first_stamp F) (told_shown address (at places.now address)))) }
     ensures puts { (which : FilterRecord) (F : List FrameRecord) → Chooses which chooser.now F
         → Puts (now_text writing.entry.form (manner_of writing.entry)
-        (now_taken which (first_stamp F) (nows_shown address (at places.now address))))
+        (now_taken which (first_stamp F) (told_shown address (at places.now address))))
         result (turn W.written W.has_failed sink.old sink.new) }
     ensures mark { Marks result (W.has_failed sink.old) (W.has_failed sink.new) }
 {
@@ -82,10 +83,10 @@ fn put_asked<W: Sink>(
     sink: &mut W,
 ) -> Result<u64, DeviceFault>
     ensures lines { IfOk result (λ n. (which : FilterRecord) (F : List FrameRecord) → Chooses which chooser.now F
-        → n ≡ now_lines (manner_of writing.entry) (now_taken which (first_stamp F) (nows_shown address (Some last.now)))) }
+        → n ≡ now_lines (manner_of writing.entry) (now_taken which (first_stamp F) (told_shown address (Some last.now)))) }
     ensures puts { (which : FilterRecord) (F : List FrameRecord) → Chooses which chooser.now F
         → Puts (now_text writing.entry.form (manner_of writing.entry)
-        (now_taken which (first_stamp F) (nows_shown address (Some last.now))))
+        (now_taken which (first_stamp F) (told_shown address (Some last.now))))
         result (turn W.written W.has_failed sink.old sink.new) }
     ensures mark { Marks result (W.has_failed sink.old) (W.has_failed sink.new) }
 {
@@ -97,15 +98,34 @@ fn put_asked<W: Sink>(
     }
 }
 
-/// Writes what the last message of an address says, and answers how many lines that is.
+/// Writes what the last message of an address says: its lamps, if they aren't all off, and its codes; answers how many lines that is.
 fn put_last<W: Sink>(
     writing: Writing<'_, '_>,
     address: u8,
     last: &LastActive,
     sink: &mut W,
 ) -> Result<u64, DeviceFault>
-    ensures lines { IfOk result (λ n. n ≡ now_lines (manner_of writing.entry) (nows_shown address (Some last.now))) }
-    ensures puts { Puts (now_text writing.entry.form (manner_of writing.entry) (nows_shown address (Some last.now)))
+    ensures lines { IfOk result (λ n. n ≡ now_lines (manner_of writing.entry) (told_shown address (Some last.now))) }
+    ensures puts { Puts (now_text writing.entry.form (manner_of writing.entry) (told_shown address (Some last.now)))
+        result (turn W.written W.has_failed sink.old sink.new) }
+{
+    let columns = sender_columns(last.stamp, address, last.destination, last.name);
+    let head = moment_head(last.stamp, &columns);
+    let lit = put_lights(head, writing, b"", last.lamps, sink)?;
+    let coded = put_standings(writing, address, last, sink)?;
+    Ok(lit + coded)
+}
+
+/// Writes its codes, and answers how many lines that is.
+fn put_standings<W: Sink>(
+    writing: Writing<'_, '_>,
+    address: u8,
+    last: &LastActive,
+    sink: &mut W,
+) -> Result<u64, DeviceFault>
+    ensures lines { IfOk result (λ n. n ≡ now_lines (manner_of writing.entry) (map (λ n. named n) (nows_shown address (Some last.now)))) }
+    ensures few { IfOk result (λ n. n ≤ 445) }
+    ensures puts { Puts (now_text writing.entry.form (manner_of writing.entry) (map (λ n. named n) (nows_shown address (Some last.now))))
         result (turn W.written W.has_failed sink.old sink.new) }
 {
     let mut lines: u64 = 0;
@@ -125,7 +145,7 @@ fn put_standing<W: Sink>(
     sink: &mut W,
 ) -> Result<u64, DeviceFault>
     ensures lines { IfOk result (λ n. n ≡ one_if (names_asked (spns_now writing.entry.spns) standing.code)) }
-    ensures puts { Puts (now_text writing.entry.form (manner_of writing.entry) (now_shown address last.now (standing_record standing) ∷ []))
+    ensures puts { Puts (now_text writing.entry.form (manner_of writing.entry) (named (now_shown address last.now (standing_record standing)) ∷ []))
         result (turn W.written W.has_failed sink.old sink.new) }
 {
     let columns = columns_of(address, last, standing);

@@ -1,7 +1,7 @@
 -- The last message of the address is asked for, or not.
 use Rattle.j39_fault_reports.proofs.Common.{◌≡◌, ◌∙◌, Bool, ℕ, List, ap, sym, FrameRecord, puts_as, puts_nothing, FilterRecord, asks_for, first_stamp, if_ok}
 use Rattle.j39_fault_reports.specs.CurrentPlaces.{LastRecord}
-use Rattle.j39_fault_reports.specs.FaultsNow.{Now}
+use Rattle.j39_fault_reports.specs.FaultsNow.{Told}
 use Rattle.j39_fault_reports.specs.FaultsNowRun.{now_lines, now_text}
 use Rattle.j39_fault_reports.proofs.NowLineLemmas.{asked_there, no_text, unasked_there}
 use Rattle.j39_fault_reports.specs.FaultsSoFar.{manner_of}
@@ -17,7 +17,7 @@ answered which F a raw view last r same pgn is =
 
 pub returns-then-asks_for-clause-lines : goal.returns-then-asks_for-clause-lines
 returns-then-asks_for-clause-lines g c = if_ok c.put_last.result _ _ (λ n is which F chosen.
-    is ∙ sym (ap (λ (ns : List Now). now_lines (manner_of c.args.writing) ns) (asked_there which (first_stamp F) c.args.address c.args.last.now (answered which F c.args.address c.raw-pgn.result _ c.args.last.now c.asks_for.result c.last.view_is c.raw-pgn.ensures.value (c.asks_for.ensures which F chosen) ∙ c.if-asks_for.true)))) c.put_last.ensures.lines
+    is ∙ sym (ap (λ (ns : List Told). now_lines (manner_of c.args.writing) ns) (asked_there which (first_stamp F) c.args.address c.args.last.now (answered which F c.args.address c.raw-pgn.result _ c.args.last.now c.asks_for.result c.last.view_is c.raw-pgn.ensures.value (c.asks_for.ensures which F chosen) ∙ c.if-asks_for.true)))) c.put_last.ensures.lines
 
 pub returns-then-asks_for-clause-puts : goal.returns-then-asks_for-clause-puts
 returns-then-asks_for-clause-puts g c = λ which F chosen.
@@ -26,7 +26,7 @@ returns-then-asks_for-clause-puts g c = λ which F chosen.
 
 pub returns-else-asks_for-clause-lines : goal.returns-else-asks_for-clause-lines
 returns-else-asks_for-clause-lines g c = λ which F chosen.
-    sym (ap (λ (ns : List Now). now_lines (manner_of c.args.writing) ns) (unasked_there which (first_stamp F) c.args.address c.args.last.now (answered which F c.args.address c.raw-pgn.result _ c.args.last.now c.asks_for.result c.last.view_is c.raw-pgn.ensures.value (c.asks_for.ensures which F chosen) ∙ c.if-asks_for.false)))
+    sym (ap (λ (ns : List Told). now_lines (manner_of c.args.writing) ns) (unasked_there which (first_stamp F) c.args.address c.args.last.now (answered which F c.args.address c.raw-pgn.result _ c.args.last.now c.asks_for.result c.last.view_is c.raw-pgn.ensures.value (c.asks_for.ensures which F chosen) ∙ c.if-asks_for.false)))
 
 pub returns-else-asks_for-clause-puts : goal.returns-else-asks_for-clause-puts
 returns-else-asks_for-clause-puts g c = λ which F chosen.

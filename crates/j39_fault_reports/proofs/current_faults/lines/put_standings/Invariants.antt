@@ -1,7 +1,7 @@
 use Rattle.j39_fault_reports.proofs.Common.{◌≡◌, take, Ok, Puts, turn}
 use Rattle.j39_fault_reports.proofs.NowLineLemmas.{counted, lines}
 use Rattle.j39_fault_reports.specs.FaultsSoFar.{manner_of}
-use Rattle.j39_fault_reports.proofs.current_faults.lines.put_last.Given as goal
+use Rattle.j39_fault_reports.proofs.current_faults.lines.put_standings.Given as goal
 
 -- the lines so far are written and counted, and no fault came
 abbrev pub invariant-loop-standing : goal.invariant-loop-standing
