@@ -46,7 +46,8 @@ doesn't name it); silence clears none.
 With --now instead: each code that the last DM1 of a controller names, or that it
 names none, at the log's end or --until. Then the line's time is that of the first
 DM1 since which the controller names the code; behind the NAME stand the time of the
-last DM1, and how many there are. Who fell silent still stands there.
+last DM1, how many there are, and how long before the last frame it came, if five
+seconds or more (silent 47.850000). Who fell silent still stands there.
 
 The line has the time, the source address (hex), the NAME that holds it (hex, or
 dashes if no claim before tells it), the state, or what became of the code, the SPN,

@@ -16,6 +16,7 @@ pub mod PutLemmas
 pub mod BrokenLemmas
 pub mod WholeLemmas
 -- the faults that are there now
+pub mod SilenceLemmas
 pub mod StandingLemmas
 pub mod CurrentLemmas
 pub mod NowPlaceLemmas

@@ -1,5 +1,5 @@
 -- The lines of the faults that are there now, one behind the other.
-use Rattle.j39_fault_reports.proofs.Common.{◌≡◌, ◌∙◌, ◌+◌, ◌-◌, ◌<◌, ◌++◌, ◌∷◌, [], ℕ, zero, suc, Bool, true, false, List, Result, Ok, Err, Some, append-nil, append_assoc, ap, arith, length, map, refl, sym, take, IsErr, slice_index_or, flat_map, cond-true, cond-false, if◌then◌else◌, ◌≤◌, flat_map-append, flat_map-map, length-map, count_by-le-length, filter-append, Puts, Device, puts_as, puts_done, puts_first, puts_then, puts_until, flat_map-next, capped, FilterRecord, asks_for, no_filter, Format, Active, Is, HeadRecord, take-suc, map-append}
+use Rattle.j39_fault_reports.proofs.Common.{◌≡◌, ◌∙◌, ◌+◌, ◌-◌, ◌<◌, ◌++◌, ◌∷◌, [], ℕ, zero, suc, Bool, true, false, List, Option, Result, Ok, Err, Some, append-nil, append_assoc, ap, arith, length, map, refl, sym, take, IsErr, slice_index_or, flat_map, cond-true, cond-false, if◌then◌else◌, ◌≤◌, flat_map-append, flat_map-map, length-map, count_by-le-length, filter-append, Puts, Device, puts_as, puts_done, puts_first, puts_then, puts_until, flat_map-next, capped, FilterRecord, asks_for, no_filter, Format, Active, Is, HeadRecord, take-suc, map-append}
 use Rattle.std.specs.Prelude.{bytes_eq}
 use Rattle.j39_faults.specs.Text.{lamps_told}
 use Rattle.j39_fault_reports.specs.FaultRows.{faults_text, message_head}
@@ -17,26 +17,26 @@ use Rattle.j39_fault_reports.specs.declared.current_faults.standing.Standing.{St
 
 -- ---- the text of one
 
-pub one_text : (form : Format) (rows : Manner) (n : Now) → line_of form (now_head n) rows (Is Active) n.lamps n.code ≡ now_text form rows (named n ∷ [])
+pub one_text : (form : Format) (rows : Manner) (till : Option ℕ) (n : Now) → line_of form (now_head till n) rows (Is Active) n.lamps n.code ≡ now_text form rows till (named n ∷ [])
 unfolding now_text
-one_text form rows n = sym (append-nil _)
+one_text form rows till n = sym (append-nil _)
 
-pub no_text : (form : Format) (rows : Manner) → now_text form rows [] ≡ []
+pub no_text : (form : Format) (rows : Manner) (till : Option ℕ) → now_text form rows till [] ≡ []
 unfolding now_text
-no_text form rows = refl
+no_text form rows till = refl
 
-pub now_text-append : (form : Format) (rows : Manner) (xs ys : List Told) → now_text form rows (xs ++ ys) ≡ now_text form rows xs ++ now_text form rows ys
+pub now_text-append : (form : Format) (rows : Manner) (till : Option ℕ) (xs ys : List Told) → now_text form rows till (xs ++ ys) ≡ now_text form rows till xs ++ now_text form rows till ys
 unfolding now_text
-now_text-append form rows xs ys = flat_map-append _ xs ys
+now_text-append form rows till xs ys = flat_map-append _ xs ys
 
 -- of faults
-pub text_of_faults : (form : Format) (rows : Manner) (fs : List Fault) → now_text form rows (map (λ f. lit f) fs) ≡ faults_text form rows fs
+pub text_of_faults : (form : Format) (rows : Manner) (till : Option ℕ) (fs : List Fault) → now_text form rows till (map (λ f. lit f) fs) ≡ faults_text form rows fs
 unfolding now_text faults_text
-text_of_faults form rows fs = flat_map-map (told_line form rows) (λ (f : Fault). lit f) fs
+text_of_faults form rows till fs = flat_map-map (told_line form rows till) (λ (f : Fault). lit f) fs
 
 -- ---- what one message says
 
-module _ (form : Format) (rows : Manner) (a : ℕ) (last : LastRecord) where
+module _ (form : Format) (rows : Manner) (till : Option ℕ) (a : ℕ) (last : LastRecord) where
   abbrev as_told : Standing → Told
   as_told s = named (now_shown a last (standing_record s))
 
@@ -45,18 +45,18 @@ module _ (form : Format) (rows : Manner) (a : ℕ) (last : LastRecord) where
   named_by ss = map (λ n. named n) (map (now_shown a last) (map standing_record ss))
 
   abbrev pub line : Standing → List ℕ
-  line s = now_text form rows (as_told s ∷ [])
+  line s = now_text form rows till (as_told s ∷ [])
 
   abbrev pub lines : List Standing → List ℕ
-  lines ss = now_text form rows (named_by ss)
+  lines ss = now_text form rows till (named_by ss)
 
   lines_are : (ss : List Standing) → lines ss ≡ flat_map line ss
-  lines_are [] = no_text form rows
+  lines_are [] = no_text form rows till
   lines_are (s ∷ ss) =
-      now_text-append form rows (as_told s ∷ []) (named_by ss) ∙ ap (λ t. line s ++ t) (lines_are ss)
+      now_text-append form rows till (as_told s ∷ []) (named_by ss) ∙ ap (λ t. line s ++ t) (lines_are ss)
 
   pub none_put : (ss : List Standing) → [] ≡ lines (take 0 ss)
-  none_put ss = sym (no_text form rows)
+  none_put ss = sym (no_text form rows till)
 
   pub line_more : {E F G : Type 0} (ss : List Standing) (i : ℕ) (s : Standing) (n : ℕ) (old mid new : Device) → i < length ss → s ≡ slice_index_or ss i s
       → Puts {T = Unit} {E = E} (lines (take i ss)) (Ok tt) (record { old = old; new = mid })
@@ -104,7 +104,7 @@ module _ (form : Format) (rows : Manner) (a : ℕ) (last : LastRecord) where
 
 -- ---- the lamps before the codes of the last message of an address
 
-module _ (form : Format) (rows : Manner) (a : ℕ) (view last : LastRecord) (same : view ≡ last) (head : HeadRecord)
+module _ (form : Format) (rows : Manner) (till : Option ℕ) (a : ℕ) (view last : LastRecord) (same : view ≡ last) (head : HeadRecord)
     (is : head ≡ message_head view.stamp a view.destination view.name) where
   abbrev its_codes : List Told
   its_codes = map (λ n. named n) (nows_shown a (Some last))
@@ -112,10 +112,10 @@ module _ (form : Format) (rows : Manner) (a : ℕ) (view last : LastRecord) (sam
   head_is : head ≡ message_head last.stamp a last.destination last.name
   head_is = is ∙ ap (λ (l : LastRecord). message_head l.stamp a l.destination l.name) same
 
-  pub lit_text : lights_line form head rows [] view.lamps ++ now_text form rows its_codes ≡ now_text form rows (told_shown a (Some last))
-  lit_text = ap (λ (l : LastRecord). lights_line form head rows [] l.lamps ++ now_text form rows its_codes) same
-      ∙ ap (λ t. t ++ now_text form rows its_codes) (lights_text form rows [] last.lamps (said_here a last) head refl head_is ∙ sym (text_of_faults form rows (lights_shown a (Some last))))
-      ∙ sym (now_text-append form rows (map (λ f. lit f) (lights_shown a (Some last))) its_codes)
+  pub lit_text : lights_line form head rows [] view.lamps ++ now_text form rows till its_codes ≡ now_text form rows till (told_shown a (Some last))
+  lit_text = ap (λ (l : LastRecord). lights_line form head rows [] l.lamps ++ now_text form rows till its_codes) same
+      ∙ ap (λ t. t ++ now_text form rows till its_codes) (lights_text form rows [] last.lamps (said_here a last) head refl head_is ∙ sym (text_of_faults form rows till (lights_shown a (Some last))))
+      ∙ sym (now_text-append form rows till (map (λ f. lit f) (lights_shown a (Some last))) its_codes)
 
   pub lit_count : (n k : ℕ) → n ≡ one_if (are_lit rows [] view.lamps) → k ≡ now_lines rows its_codes → n + k ≡ now_lines rows (told_shown a (Some last))
   lit_count n k here more =
@@ -127,28 +127,35 @@ module _ (form : Format) (rows : Manner) (a : ℕ) (view last : LastRecord) (sam
 
 -- ---- what stands at the places
 
+-- where it is added place by place, what stands below one is a front of what stands below a later one
+rest_of : {X : Type 0} (below : ℕ → List X) (here : ℕ → List X) → ((n : ℕ) → below (n + 1) ≡ below n ++ here n) → (n k : ℕ)
+    → (rest : List X) × (below (k + n) ≡ below n ++ rest)
+rest_of below here next n zero = ([], (let same : 0 + n ≡ n = omega arith in ap below same ∙ sym (append-nil (below n))))
+rest_of below here next n (suc k) =
+    let more : suc k + n ≡ k + n + 1 = omega arith in
+    let r = rest_of below here next n k in
+    (r.0 ++ here (k + n), ap below more ∙ next (k + n) ∙ ap (λ xs. xs ++ here (k + n)) r.1 ∙ append_assoc (below n) r.0 (here (k + n)))
+
 module _ (places : LastActives) where
   pub shown_next : (n : ℕ) → shown_below places (n + 1) ≡ shown_below places n ++ nows_shown n (at places n)
   unfolding shown_below
   shown_next n = (let next : n + 1 ≡ suc n = omega arith in ap (shown_below places) next)
+
+  pub shown_rest : (n k : ℕ) → (rest : List Now) × (shown_below places (k + n) ≡ shown_below places n ++ rest)
+  shown_rest n k = rest_of (shown_below places) (λ n. nows_shown n (at places n)) shown_next n k
 
   told_next : (n : ℕ) → told_so_far places (n + 1) ≡ told_so_far places n ++ told_shown n (at places n)
   unfolding told_so_far
   told_next n = (let next : n + 1 ≡ suc n = omega arith in ap (told_so_far places) next)
 
   told_rest : (n k : ℕ) → (rest : List Told) × (told_so_far places (k + n) ≡ told_so_far places n ++ rest)
-  unfolding told_so_far
-  told_rest n zero = ([], (let same : 0 + n ≡ n = omega arith in ap (told_so_far places) same ∙ sym (append-nil (told_so_far places n))))
-  told_rest n (suc k) =
-      let next : suc k + n ≡ suc (k + n) = omega arith in
-      let r = told_rest n k in
-      (r.0 ++ told_shown (k + n) (at places (k + n)), ap (told_so_far places) next ∙ ap (λ ns. ns ++ told_shown (k + n) (at places (k + n))) r.1 ∙ append_assoc (told_so_far places n) r.0 (told_shown (k + n) (at places (k + n))))
+  told_rest n k = rest_of (told_so_far places) (λ n. told_shown n (at places n)) told_next n k
 
 -- ---- of what stands there, what is asked for
 
-module _ (form : Format) (rows : Manner) (which : FilterRecord) (first : ℕ) (places : LastActives) where
+module _ (form : Format) (rows : Manner) (till : Option ℕ) (which : FilterRecord) (first : ℕ) (places : LastActives) where
   abbrev pub text : ℕ → List ℕ
-  text n = now_text form rows (taken_below which first places n)
+  text n = now_text form rows till (taken_below which first places n)
 
   abbrev taken_at : ℕ → List Told
   taken_at n = now_taken which first (told_shown n (at places n))
@@ -161,12 +168,12 @@ module _ (form : Format) (rows : Manner) (which : FilterRecord) (first : ℕ) (p
       let r = told_rest places n k in
       (now_taken which first r.0, ap (now_taken which first) r.1 ∙ filter-append (asks_now which first) (told_so_far places n) r.0)
 
-  text_next : (n : ℕ) → text (n + 1) ≡ text n ++ now_text form rows (taken_at n)
-  text_next n = ap (now_text form rows) (taken_next n) ∙ now_text-append form rows (taken_below which first places n) (taken_at n)
+  text_next : (n : ℕ) → text (n + 1) ≡ text n ++ now_text form rows till (taken_at n)
+  text_next n = ap (now_text form rows till) (taken_next n) ∙ now_text-append form rows till (taken_below which first places n) (taken_at n)
 
   pub no_places : [] ≡ text 0
   unfolding told_so_far
-  no_places = sym (no_text form rows)
+  no_places = sym (no_text form rows till)
 
   pub no_lines : 0 ≡ capped (now_lines rows (taken_below which first places 0))
   unfolding told_so_far
@@ -174,21 +181,21 @@ module _ (form : Format) (rows : Manner) (which : FilterRecord) (first : ℕ) (p
 
   pub place_more : {T E F G : Type 0} (n : ℕ) (x : T) (old mid new : Device)
       → Puts {T = Unit} {E = E} (text n) (Ok tt) (record { old = old; new = mid })
-      → Puts {T = T} {E = F} (now_text form rows (taken_at n)) (Ok x) (record { old = mid; new = new })
+      → Puts {T = T} {E = F} (now_text form rows till (taken_at n)) (Ok x) (record { old = mid; new = new })
       → Puts {T = Unit} {E = G} (text (n + 1)) (Ok tt) (record { old = old; new = new })
   place_more n x old mid new before here =
       puts_as _ _ _ _ (sym (text_next n)) (puts_then _ _ tt (Ok tt) old mid new before (puts_done _ x tt _ here))
 
   pub place_stops : {T U E F G : Type 0} (n : ℕ) (e : E) (end : Result U F) (old mid new : Device) → n < 256 → IsErr end
       → Puts {T = Unit} {E = G} (text n) (Ok tt) (record { old = old; new = mid })
-      → Puts {T = T} (now_text form rows (taken_at n)) (Err e) (record { old = mid; new = new })
+      → Puts {T = T} (now_text form rows till (taken_at n)) (Err e) (record { old = mid; new = new })
       → Puts (text 256) end (record { old = old; new = new })
   place_stops {T = T} n e end old mid new below failed before here =
-      let here_text = now_text form rows (taken_at n) in
+      let here_text = now_text form rows till (taken_at n) in
       let r = taken_rest (n + 1) (255 - n) in
       let all : 256 ≡ 255 - n + (n + 1) = omega (arith, below) in
-      puts_as _ _ _ _ (sym (ap text all ∙ ap (now_text form rows) r.1 ∙ now_text-append form rows (taken_below which first places (n + 1)) r.0 ∙ ap (λ t. t ++ now_text form rows r.0) (text_next n)))
-      (puts_first {T = T} (text n ++ here_text) (now_text form rows r.0) e end _ failed (puts_then _ _ tt (Err e) old mid new before here))
+      puts_as _ _ _ _ (sym (ap text all ∙ ap (now_text form rows till) r.1 ∙ now_text-append form rows till (taken_below which first places (n + 1)) r.0 ∙ ap (λ t. t ++ now_text form rows till r.0) (text_next n)))
+      (puts_first {T = T} (text n ++ here_text) (now_text form rows till r.0) e end _ failed (puts_then _ _ tt (Err e) old mid new before here))
 
   pub lines_more : (n lines here : ℕ) → lines ≡ capped (now_lines rows (taken_below which first places n)) → here ≡ now_lines rows (taken_at n)
       → capped (lines + here) ≡ capped (now_lines rows (taken_below which first places (n + 1)))

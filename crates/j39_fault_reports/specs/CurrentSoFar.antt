@@ -1,6 +1,7 @@
 -- The steps of a run that tells which faults are there now: nothing is written before its end.
-use Rattle.std.specs.Prelude.{◌≡◌, ◌+◌, ◌++◌, ◌∷◌, [], ◌<◌, ℕ, zero, suc, List, Option, Some, None, length, map}
+use Rattle.std.specs.Prelude.{◌≡◌, ◌+◌, ◌++◌, ◌∷◌, [], ◌<◌, ℕ, zero, suc, List, Option, Some, None, length, map, option_map}
 use Rattle.j39_frame.specs.Frame.{FrameRecord}
+use Rattle.j39_frame.specs.Stamp.{stamp_micros}
 use Rattle.j39_faults.specs.LampBits.{lamps_of}
 use Rattle.j39_faults.specs.declared.code.Code.{Code}
 use Rattle.j39_faults.specs.declared.conversion.Conversion.{Conversion}
@@ -17,6 +18,7 @@ use Rattle.j39_fault_reports.specs.Faults.{Fault, Manner, Saying, codes_or_none,
 use Rattle.j39_fault_reports.specs.CurrentPlaces.{LastRecord, LastActives, StandingRecord, at, name_in}
 use Rattle.j39_fault_reports.specs.Places.{IsKept}
 use Rattle.j39_fault_reports.specs.FaultsNow.{Now, Told, codes_in, earliest, lit, named, naming, now_taken}
+use Rattle.j39_fault_reports.specs.Silence.{last_stamp}
 use Rattle.j39_fault_reports.specs.Spoken.{active_among, spoken_in}
 use Rattle.j39_fault_reports.specs.FaultsSoFar.{IsBroken, announced_in, manner_of, with_either, with_frame}
 use Rattle.j39_fault_reports.specs.News.{is_fault_group}
@@ -133,6 +135,7 @@ pub record HasKept (form : Format) (s : NowSubject) (account : FaultsNow) (F : L
   pub are_kept : AreKept s.conversions account.places (in_time s.which (stamp_of_first F) (active_among heard))
   pub messages_are : account.messages ≡ capped (length (active_among heard))
   pub announced_is : account.announced ≡ announced_in F heard
+  pub last_is : option_map stamp_micros account.last ≡ last_stamp s.which F
   pub nothing_yet : output ≡ nothing
 
 -- so many messages of codes were broken in the frames whose faults are kept

@@ -21,7 +21,7 @@ use std::alloc::Global;
 
 /// The names of the columns of records.
 const COLUMNS: &[u8] =
-    b"first_stamp,first_utc,address,name,last_stamp,last_utc,messages,state,spn,fmi,count,lamps,parameter,meaning\r\n";
+    b"first_stamp,first_utc,address,name,last_stamp,last_utc,messages,silent,state,spn,fmi,count,lamps,parameter,meaning\r\n";
 
 /// Writes which faults are there at the end of a log of at most `limit` bytes: a line, a record of comma-separated
 /// values (RFC 4180), or an object (RFC 8259), for each code that the last message of DM1 of each controller names, or one that it names none, in
