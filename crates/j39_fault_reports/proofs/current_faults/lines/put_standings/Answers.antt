@@ -2,7 +2,7 @@
 use Rattle.j39_fault_reports.proofs.Common.{◌∙◌, ap, map, refl, puts_as, puts_nothing}
 use Rattle.j39_fault_reports.specs.CurrentPlaces.{LastRecord, standing_record}
 use Rattle.j39_fault_reports.specs.CurrentSoFar.{now_shown}
-use Rattle.j39_fault_reports.specs.FaultsNow.{Now, named}
+use Rattle.j39_fault_reports.specs.FaultsNow.{named}
 use Rattle.j39_fault_reports.specs.FaultsNowRun.{now_text}
 use Rattle.j39_fault_reports.proofs.NowLineLemmas.{count_more, line_more, line_stops, none_put}
 use Rattle.j39_fault_reports.specs.FaultsSoFar.{manner_of}

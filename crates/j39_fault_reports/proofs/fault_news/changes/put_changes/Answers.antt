@@ -1,5 +1,5 @@
 -- The line of the lamps, and those of what became of the codes.
-use Rattle.j39_fault_reports.proofs.Common.{◌∙◌, refl, lamps_of, puts_as, puts_done, puts_failed, puts_first, puts_then, hearing_of}
+use Rattle.j39_fault_reports.proofs.Common.{◌∙◌, arith, refl, lamps_of, puts_as, puts_done, puts_failed, puts_first, puts_then, hearing_of}
 use Rattle.j39_fault_reports.specs.FaultChanges.{code_changes, words_of}
 use Rattle.j39_fault_reports.specs.Faults.{said_at}
 use Rattle.j39_fault_reports.specs.FaultsSoFar.{manner_of}
@@ -36,3 +36,9 @@ returns-clause-lines g c =
     let coded = code_changes c.args.version c.args.before.now m c.args.lamps in
     let words = c.as_slice.ensures.value ∙ c.words_in-words.ensures in
     both_count c.args.writing.form (manner_of c.args.writing) (words_of (lamps_of c.args.before.now)) c.args.lamps (said_at m) _ refl c.message_head-head.ensures coded _ _ (rw words at c.in_ok-lit.ensures.lines) c.in_ok-coded.ensures.lines
+
+pub overflow_add-result : goal.overflow_add-result
+overflow_add-result g c =
+    let lit = c.in_ok-lit.ensures.few in
+    let few = c.in_ok-coded.ensures.few in
+    omega (arith, lit, few)

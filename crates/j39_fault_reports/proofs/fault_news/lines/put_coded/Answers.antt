@@ -1,6 +1,6 @@
 -- The lines of the codes, or the line of none.
 use Rattle.j39_fault_reports.proofs.Common.{◌∙◌, arith, sym, codes_by, Is, if_ok, hearing_of}
-use Rattle.j39_fault_reports.proofs.FaultLineLemmas.{codes_put, codes_stop, count_none, count_some, few_named, none_put, one_at_most}
+use Rattle.j39_fault_reports.proofs.FaultLineLemmas.{codes_put, codes_stop, count_none, count_some, none_put, one_at_most}
 use Rattle.j39_fault_reports.specs.FaultsSoFar.{manner_of}
 use Rattle.j39_fault_reports.proofs.fault_news.lines.put_coded.Goals as goal
 
@@ -38,10 +38,7 @@ returns-clause-lines g c =
     if_ok c.put_fault.result _ _ (λ n is. count_none (manner_of c.args.writing) (hearing_of c.args.heard.now) (Is c.args.kind) c.args.lamps cs n (omega arith) is) c.put_fault.ensures.lines
 
 pub returns-then-lines-gt0-clause-few : goal.returns-then-lines-gt0-clause-few
-returns-then-lines-gt0-clause-few g c =
-    let few = few_named (manner_of c.args.writing) c.args.version c.args.heard.now.message.payload.now in
-    let count = c.in_ok-lines.ensures.lines in
-    omega (arith, few, count)
+returns-then-lines-gt0-clause-few g c = c.in_ok-lines.ensures.few
 
 pub returns-clause-few : goal.returns-clause-few
 returns-clause-few g c = if_ok c.put_fault.result _ _ (λ n is. let one = one_at_most _ n is in omega (arith, one)) c.put_fault.ensures.lines

@@ -1,5 +1,5 @@
 -- The line of the lamps, and those of the codes.
-use Rattle.j39_fault_reports.proofs.Common.{◌∙◌, [], refl, codes_by, map, Is, puts_as, puts_done, puts_failed, puts_first, puts_then, hearing_of}
+use Rattle.j39_fault_reports.proofs.Common.{[], arith, refl, codes_by, map, Is, puts_as, puts_done, puts_failed, puts_first, puts_then, hearing_of}
 use Rattle.j39_fault_reports.specs.Faults.{codes_or_none, fault_of, said_at}
 use Rattle.j39_fault_reports.specs.FaultsSoFar.{manner_of}
 use Rattle.j39_fault_reports.proofs.LightLemmas.{both_count, both_text}
@@ -31,3 +31,9 @@ returns-clause-lines g c =
     let m = hearing_of c.args.heard.now in
     let coded = map (fault_of m (Is c.args.kind) c.args.lamps) (codes_or_none (codes_by c.args.version c.args.heard.now.message.payload.now)) in
     both_count c.args.writing.form (manner_of c.args.writing) [] c.args.lamps (said_at m) _ refl c.message_head-head.ensures coded _ _ c.in_ok-lit.ensures.lines c.in_ok-coded.ensures.lines
+
+pub overflow_add-result : goal.overflow_add-result
+overflow_add-result g c =
+    let lit = c.in_ok-lit.ensures.few in
+    let few = c.in_ok-coded.ensures.few in
+    omega (arith, lit, few)
