@@ -9,6 +9,7 @@ use Rattle.j39_listen.specs.declared.running.RunFault.{RunFault}
 use Rattle.j39_fault_reports.specs.Broken.{ToldFaults}
 use Rattle.j39_fault_reports.specs.FaultAsking.{AsksForFaults}
 use Rattle.j39_fault_reports.specs.FaultRun.{MakesFaults}
+use Rattle.j39_fault_reports.specs.Faults.{manner_in}
 use Rattle.j39_fault_reports.specs.FaultsNowRun.{AsksForFaultsNow, MakesFaultsNow}
 use Rattle.j39_groups.specs.Row.{RowRecord}
 use Rattle.j39_listen.specs.Asking.{Wanting}
@@ -76,9 +77,9 @@ versions_in conversions = unwrap_or conversions []
 -- what a run makes by a table: the faults that are asked for
 abbrev pub makes_told : FaultsTold → List Conversion → Asked → Format → List RowRecord → Making
 makes_told (InMessages telling) conversions asked format rows =
-    MakesFaults format (record { rows = rows; spns = asked.spns }) (record { telling = telling; conversions = conversions; asked = filter_in asked })
+    MakesFaults format (manner_in format rows asked.spns) (record { telling = telling; conversions = conversions; asked = filter_in asked })
 makes_told Now conversions asked format rows =
-    MakesFaultsNow format (record { rows = rows; spns = asked.spns }) conversions (filter_in asked)
+    MakesFaultsNow format (manner_in format rows asked.spns) conversions (filter_in asked)
 
 abbrev pub makes_by : FaultOptions → List RowRecord → Making
 makes_by o = makes_told o.told (versions_in o.conversions) o.rows.asked o.rows.format

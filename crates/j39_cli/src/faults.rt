@@ -46,12 +46,15 @@ doesn't name it); silence clears none.
 With --now instead: each code that the last DM1 of a controller names, or that it
 names none, at the log's end or --until. Then the line's time is that of the first
 DM1 since which the controller names the code; behind the NAME stand the time of the
-last DM1, and how many there are. Who fell silent still stands there.
+last DM1, how many there are, and how long before the last frame it came, if five
+seconds or more (silent 47.850000). Who fell silent still stands there.
 
 The line has the time, the source address (hex), the NAME that holds it (hex, or
 dashes if no claim before tells it), the state, or what became of the code, the SPN,
-the FMI, how often it came (or -), the lamps of the controller (a flashing one with
-*, or - if all are off), what the table calls the parameter, and what the FMI means.";
+the FMI, how often it came (or -), what the table calls the parameter, and what the
+FMI means. Before the lines of a message stands one of the sender's lamps (a flashing
+one with *), if they aren't all off; with --changes, if they changed (- if all went
+off). With --spn none does.";
 
 const HELP: &str = "\
 At the end the counts go to standard error:
@@ -67,7 +70,8 @@ At the end the counts go to standard error:
 Example:
   j1939 faults --bus can0 trip.log
 writes lines such as
-  (1700000000.250000) 00 8000000001401234 active 110 0 3 red,amber coolant temperature: data valid but above normal operational range, most severe level";
+  (1700000000.250000) 00 8000000001401234 lamps red,amber
+  (1700000000.250000) 00 8000000001401234 active 110 0 3 coolant temperature: data valid but above normal operational range, most severe level";
 
 /// What clap is told of it.
 pub(crate) fn command<'a>(alloc: Global) -> Result<Command<'a>, AllocError>

@@ -1,7 +1,9 @@
 -- What is told of one message is asked for as a whole, or not at all.
-use Rattle.j39_fault_reports.proofs.Common.{◌≡◌, ◌∙◌, ◌++◌, ◌∷◌, [], ◌&&◌, ℕ, Bool, true, false, List, Option, Some, None, ap, map, refl, sym, flat_map, filter-append, codes_by, version_for, change_since, clearing_by, cleared_in, kind_of, lamps_of, Change, Code, Conversion, Version, Kind, Lamps, Is, FilterRecord, no_filter, takes_message, Hearing}
-use Rattle.j39_fault_reports.specs.FaultChanges.{became, changes_by, changes_of, last_bytes}
-use Rattle.j39_fault_reports.specs.Faults.{Fault, asks_fault, codes_or_none, fault_of, faults_by, faults_in, faults_or_clearing, faults_taken}
+use Rattle.j39_fault_reports.proofs.Common.{◌≡◌, ◌∙◌, ◌++◌, ◌∷◌, [], ◌&&◌, if◌then◌else◌, ℕ, Bool, true, false, List, Option, Some, None, ap, map, refl, sym, flat_map, filter-append, codes_by, version_for, change_since, clearing_by, cleared_in, kind_of, lamps_of, Change, Code, Conversion, Version, Kind, Lamps, Is, FilterRecord, no_filter, takes_message, Hearing}
+use Rattle.std.specs.Prelude.{bytes_eq}
+use Rattle.j39_faults.specs.Text.{lamps_told}
+use Rattle.j39_fault_reports.specs.FaultChanges.{became, changes_by, changes_of, last_bytes, words_of}
+use Rattle.j39_fault_reports.specs.Faults.{Fault, asks_fault, codes_or_none, lights, lights_since, said_at, fault_of, faults_by, faults_in, faults_or_clearing, faults_taken}
 use Rattle.j39_fault_reports.specs.FaultsSoFar.{told_faults, told_next}
 use Rattle.j39_fault_reports.specs.News.{Chosen, is_news, is_of_faults}
 use Rattle.j39_fault_reports.specs.Spoken.{active_among, is_active, sent_before, spoken_in}
@@ -32,6 +34,13 @@ module _ (which : FilterRecord) (first : ℕ) (m : Hearing) where
       by true = refl
       by false = refl
 
+  whole_lights : (before : List ℕ) (lamps : Lamps) → AreWhole (lights_since before lamps (said_at m))
+  whole_lights before lamps = by (bytes_eq (lamps_told lamps) before)
+    where
+      by : (b : Bool) → AreWhole (if b then [] else said_at m (lights lamps) ∷ [])
+      by true = whole_none
+      by false = refl
+
   whole_codes : (kind : Kind) (lamps : Lamps) (os : List (Option Code)) → AreWhole (map (fault_of m (Is kind) lamps) os)
   whole_codes kind lamps [] = whole_none
   whole_codes kind lamps (o ∷ os) = whole_both (fault_of m (Is kind) lamps o ∷ []) (map (fault_of m (Is kind) lamps) os) refl (whole_codes kind lamps os)
@@ -39,7 +48,8 @@ module _ (which : FilterRecord) (first : ℕ) (m : Hearing) where
   whole_by : (version : Option Version) (kind : Option Kind) (lamps : Option Lamps) → AreWhole (faults_by version m kind lamps)
   whole_by version None lamps = whole_none
   whole_by version (Some kind) None = whole_none
-  whole_by version (Some kind) (Some lamps) = whole_codes kind lamps (codes_or_none (codes_by version m.message.bytes))
+  whole_by version (Some kind) (Some lamps) =
+      whole_both _ _ (whole_lights [] lamps) (whole_codes kind lamps (codes_or_none (codes_by version m.message.bytes)))
 
   whole_in : (conversions : List Conversion) (cleared : Option Kind) → AreWhole (faults_or_clearing conversions m cleared)
   whole_in conversions (Some kind) = refl
@@ -60,8 +70,9 @@ module _ (which : FilterRecord) (first : ℕ) (m : Hearing) where
   whole_changes version before (Some kind) (Some lamps) = by (is_active kind)
     where
       by : (b : Bool) → AreWhole (told_faults b (changes_by version before m lamps))
-      by true = whole_both _ _ (whole_changed lamps (change_since (codes_by version before)) (codes_by version m.message.bytes))
-          (whole_changed lamps (clearing_by (codes_by version m.message.bytes)) (codes_by version before))
+      by true = whole_both _ _ (whole_lights (words_of (lamps_of before)) lamps)
+          (whole_both _ _ (whole_changed lamps (change_since (codes_by version before)) (codes_by version m.message.bytes))
+          (whole_changed lamps (clearing_by (codes_by version m.message.bytes)) (codes_by version before)))
       by false = whole_none
 
   pub whole_told : (telling : Telling) (conversions : List Conversion) (before : List Hearing) → AreWhole (told_of telling conversions before m)

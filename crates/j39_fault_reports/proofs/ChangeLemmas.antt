@@ -23,7 +23,7 @@ change_put form rows m lamps code change head r sink is put =
 
 pub one_at_most : (rows : Manner) (m : Hearing) (lamps : Lamps) (code : Code) (change : Option Change) → lines_in rows (became m lamps code change) ≤ 1
 one_at_most rows m lamps code None = omega arith
-one_at_most rows m lamps code (Some change) = count_by-le-length (says_asked rows.spns) (became m lamps code (Some change))
+one_at_most rows m lamps code (Some change) = count_by-le-length (says_asked rows) (became m lamps code (Some change))
 
 -- of the codes before these, the last of a payload by a version of the conversion, was written what became of them, and no
 -- fault came
@@ -59,7 +59,7 @@ module _ (form : Format) (rows : Manner) (m : Hearing) (lamps : Lamps) (side : S
     before = h.before ++ by code ∷ [];
     all_are = h.all_are ∙ ap (λ x. h.before ++ x) (next_is left more code is) ∙ sym (append_assoc h.before (by code ∷ []) (map by more));
     count_is = (let c = h.count_is in let l : lines_in rows (of (h.before ++ by code ∷ [])) ≡ lines_in rows (of h.before) + lines_in rows (here (by code)) =
-        ap (lines_in rows) (of_one_more h.before (by code)) ∙ count_by-append (says_asked rows.spns) (of h.before) (here (by code)) in omega (arith, c, l, counts));
+        ap (lines_in rows) (of_one_more h.before (by code)) ∙ count_by-append (says_asked rows) (of h.before) (here (by code)) in omega (arith, c, l, counts));
     few = (let f = h.few in let one = one_at_most rows m lamps (by code) (change_by side others (by code)) in
         let l : length (h.before ++ by code ∷ []) ≡ length h.before + 1 = length-append h.before (by code ∷ []) in omega (arith, f, one, l, counts));
     written = puts_as _ _ _ _ (sym (ap (faults_text form rows) (of_one_more h.before (by code)) ∙ faults_text-append form rows (of h.before) (here (by code))))

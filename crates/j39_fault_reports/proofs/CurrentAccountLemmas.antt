@@ -2,7 +2,10 @@
 use Rattle.j39_fault_reports.proofs.Common.{◌≡◌, ◌∙◌, ◌+◌, ◌++◌, ◌∷◌, [], ℕ, List, Option, None, ap, append-nil, arith, length, length-append, refl, subst, sym, Appends, Appends-nil, filter-append, AppendsFront, Conversion, FrameRecord, Begins, Closes, MakesOne, Meets, StopsAtEnd, Chooses, capped, FilterRecord, first_stamp, in_time, AreHeardWith, Chooser, HeardAtWith, Hearing, or_none, Hears, Output, Format, Listener, heard_more, heard_below_unique}
 use Rattle.j39_fault_reports.specs.CurrentPlaces.{LastActives}
 use Rattle.j39_fault_reports.specs.CurrentSoFar.{AreKept, HasKept, NowSubject, TakesFrame, taken_below}
-use Rattle.j39_fault_reports.specs.FaultsNow.{faults_now, now_taken}
+use Rattle.j39_fault_reports.specs.FaultsNow.{now_taken, told_now}
+use Rattle.std.specs.Option.{option_map}
+use Rattle.j39_frame.specs.Stamp.{stamp_micros}
+use Rattle.j39_fault_reports.specs.Silence.{last_stamp}
 use Rattle.j39_fault_reports.specs.Spoken.{active_among, is_active_message}
 use Rattle.j39_fault_reports.specs.FaultsNowRun.{AsksForFaultsNow, MakesFaultsNowIn, faults_now_of, now_lines, now_text}
 use Rattle.j39_fault_reports.specs.FaultsSoFar.{manner_of, with_either, with_frame}
@@ -10,7 +13,7 @@ use Rattle.j39_fault_reports.specs.News.{is_fault_group}
 use Rattle.j39_fault_reports.specs.declared.fault_news.announced.Announced.{Announced}
 use Rattle.j39_fault_reports.specs.declared.current_faults.account.FaultsNow.{FaultsNow}
 use Rattle.j39_fault_reports.specs.declared.fault_news.form.Writing.{Writing}
-use Rattle.j39_fault_reports.proofs.CurrentLemmas.{shown_all}
+use Rattle.j39_fault_reports.proofs.CurrentLemmas.{told_all}
 use Rattle.j39_fault_reports.proofs.FaultAccountLemmas.{announced_more, faults_leave, in_time-append, same_times}
 
 -- ---- laws
@@ -22,7 +25,7 @@ now_begins form s = λ bus a F G before all has made.
 pub now_one : (form : Format) (s : NowSubject) → MakesOne (MakesFaultsNowIn form s.manner s.conversions s.which)
 now_one form s = λ bus F x y (hs, are_x, is_x) (ks, are_y, is_y).
     ap (λ (o : Output). o.text) is_x
-    ∙ ap (λ (ms : List Hearing). (faults_now_of form s.manner s.conversions s.which (first_stamp F) (active_among ms)).text) (heard_below_unique is_fault_group faults_leave F (length F) hs ks are_x are_y)
+    ∙ ap (λ (ms : List Hearing). (faults_now_of form s.manner s.conversions s.which (first_stamp F) (last_stamp s.which F) (active_among ms)).text) (heard_below_unique is_fault_group faults_leave F (length F) hs ks are_x are_y)
     ∙ sym (ap (λ (o : Output). o.text) is_y)
 
 -- ---- one frame
@@ -44,8 +47,9 @@ takes_silent which cs F f l' places a a' ms announced at hears kept = record {
 pub now_meets : (form : Format) (s : NowSubject) (a a' : FaultsNow) → a'.writing ≡ a.writing → a'.conversions ≡ a.conversions → (f : FrameRecord) (messages : ℕ) (old : Option (List ℕ))
     → ((which : FilterRecord) (F : List FrameRecord) → Chooses which a.chooser F → Chooses which a'.chooser (F ++ f ∷ []))
     → ((which : FilterRecord) (F : List FrameRecord) (ms : List Hearing) → Hears a.listener F → Chooses which a'.chooser (F ++ f ∷ []) → AreKept a.conversions.now a.places ms → TakesFrame which a.conversions.now F f a'.listener a'.places a.announced a'.announced ms messages)
+    → ((which : FilterRecord) (F : List FrameRecord) → Chooses which a'.chooser (F ++ f ∷ []) → option_map stamp_micros a.last ≡ last_stamp which F → option_map stamp_micros a'.last ≡ last_stamp which (F ++ f ∷ []))
     → a'.messages ≡ capped (a.messages + messages) → Meets (HasKept form s) a a' (f ∷ []) old old
-now_meets form s a a' writing conversions f messages old notes takes sum = λ F before has.
+now_meets form s a a' writing conversions f messages old notes takes lasts sum = λ F before has.
     let ms = active_among has.heard in
     let first = first_stamp (F ++ f ∷ []) in
     let its = in_time s.which first ms in
@@ -69,6 +73,7 @@ now_meets form s a a' writing conversions f messages old notes takes sum = λ F 
         are_kept = subst (AreKept s.conversions a'.places) (sym (ap (in_time s.which first) all ∙ in_time-append s.which first ms (active_among more))) t.are_kept;
         messages_are = count;
         announced_is = t.announced_is ∙ ap (λ (x : Announced). with_either (with_frame x f) t.heard) has.announced_is ∙ announced_more F has.heard f t.heard;
+        last_is = lasts s.which F (notes s.which F has.chooses) has.last_is;
         nothing_yet = has.nothing_yet;
       };
       more = [];
@@ -90,23 +95,23 @@ now_asks form s a chooser F f output notes asked has =
 
 -- what is written of what is asked for
 abbrev pub written_by : FaultsNow → FilterRecord → List FrameRecord → List ℕ
-written_by a which F = now_text a.writing.form (manner_of a.writing) (taken_below which (first_stamp F) a.places 256)
+written_by a which F = now_text a.writing.form (manner_of a.writing) (option_map stamp_micros a.last) (taken_below which (first_stamp F) a.places 256)
 
 all_taken : (form : Format) (s : NowSubject) (a : FaultsNow) (F : List FrameRecord) (before : Output) → (has : HasKept form s a F before)
-    → taken_below s.which (first_stamp F) a.places 256 ≡ now_taken s.which (first_stamp F) (faults_now s.conversions (in_time s.which (first_stamp F) (active_among has.heard)))
+    → taken_below s.which (first_stamp F) a.places 256 ≡ now_taken s.which (first_stamp F) (told_now s.conversions (in_time s.which (first_stamp F) (active_among has.heard)))
 all_taken form s a F before has =
-    ap (now_taken s.which (first_stamp F)) (shown_all s.conversions (in_time s.which (first_stamp F) (active_among has.heard)) a.places has.are_kept 256 (omega arith))
+    ap (now_taken s.which (first_stamp F)) (told_all s.conversions (in_time s.which (first_stamp F) (active_among has.heard)) a.places has.are_kept 256 (omega arith))
 
 all_text : (form : Format) (s : NowSubject) (a : FaultsNow) (F : List FrameRecord) (before : Output) → (has : HasKept form s a F before)
-    → written_by a s.which F ≡ (faults_now_of form s.manner s.conversions s.which (first_stamp F) (active_among has.heard)).text
-all_text form s a F before has = λ i. now_text (has.form_is i) (has.by i) (all_taken form s a F before has i)
+    → written_by a s.which F ≡ (faults_now_of form s.manner s.conversions s.which (first_stamp F) (last_stamp s.which F) (active_among has.heard)).text
+all_text form s a F before has = λ i. now_text (has.form_is i) (has.by i) (has.last_is i) (all_taken form s a F before has i)
 
 pub now_closes : (form : Format) (s : NowSubject) (a : FaultsNow) (lines : ℕ) (old new : Option (List ℕ))
     → ((which : FilterRecord) (F : List FrameRecord) → Chooses which a.chooser F → lines ≡ capped (now_lines (manner_of a.writing) (taken_below which (first_stamp F) a.places 256)))
     → ((which : FilterRecord) (F : List FrameRecord) → Chooses which a.chooser F → Appends old new (written_by a which F))
     → Closes (λ bus. HasKept form s) (MakesFaultsNowIn form s.manner s.conversions s.which) a (record { messages = a.messages; lines = lines }) old new
 now_closes form s a lines old new count written = λ bus F before has.
-    let out = faults_now_of form s.manner s.conversions s.which (first_stamp F) (active_among has.heard) in
+    let out = faults_now_of form s.manner s.conversions s.which (first_stamp F) (last_stamp s.which F) (active_among has.heard) in
     record {
       after = out;
       is_made = (has.heard, has.are_heard, refl);
@@ -121,7 +126,7 @@ pub now_stops : (form : Format) (s : NowSubject) (a : FaultsNow) (old new : Opti
     → ((which : FilterRecord) (F : List FrameRecord) → Chooses which a.chooser F → AppendsFront old new (written_by a which F))
     → StopsAtEnd (λ bus. HasKept form s) (MakesFaultsNowIn form s.manner s.conversions s.which) a old new
 now_stops form s a old new front = λ bus F before all has made.
-    let out = faults_now_of form s.manner s.conversions s.which (first_stamp F) (active_among has.heard) in
+    let out = faults_now_of form s.manner s.conversions s.which (first_stamp F) (last_stamp s.which F) (active_among has.heard) in
     let is : all.text ≡ out.text = now_one form s bus F all out made (has.heard, has.are_heard, refl) in
     record {
       rest = all.text;

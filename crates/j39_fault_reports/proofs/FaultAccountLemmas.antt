@@ -196,7 +196,7 @@ module _ (form : Format) (rows : Manner) (which : Chosen) (first : ℕ) (ms : Li
   made_more : made_of (faults_of form rows which first (ms ++ faults_among (or_none o))) ≡ made_sum (made_of (faults_of form rows which first ms)) (made_of (added form rows which first its o))
   made_more = same_made _ _
       (capped-sum _ _ _ (length-append ms (faults_among (or_none o))))
-      (capped-sum _ _ _ (ap (lines_in rows) taken_more ∙ count_by-append (says_asked rows.spns) taken_first (taken_next_of o)))
+      (capped-sum _ _ _ (ap (lines_in rows) taken_more ∙ count_by-append (says_asked rows) taken_first (taken_next_of o)))
 
 -- ---- nothing is told
 

@@ -85,9 +85,13 @@ few_put form head rows version how lamps payload left count sink h =
     let f = few_codes payload in
     omega (arith, c, some, l, n, f)
 
+pub one_at_most : (b : Bool) (n : ℕ) → n ≡ one_if b → n ≤ 1
+one_at_most true n is = omega (arith, is)
+one_at_most false n is = omega (arith, is)
+
 -- ---- which codes are asked for
 
-count_mapped : {X Y : Type 0} (p : Y → Bool) (f : X → Y) (xs : List X) → count_by p (map f xs) ≡ count_by (λ x. p (f x)) xs
+pub count_mapped : {X Y : Type 0} (p : Y → Bool) (f : X → Y) (xs : List X) → count_by p (map f xs) ≡ count_by (λ x. p (f x)) xs
 count_mapped p f [] = refl
 count_mapped p f (x ∷ xs) = count_by-append p (f x ∷ []) (map f xs) ∙ (λ i. here i + count_mapped p f xs i) ∙ sym (count_by-append (λ y. p (f y)) (x ∷ []) xs)
   where
@@ -165,11 +169,11 @@ module _ (rows : Manner) (m : Hearing) (how : State) (lamps : Lamps) where
   told cs = map (fault_of m how lamps) (codes_or_none cs)
 
   count_codes : (cs : List Code) → lines_in rows (map (fault_of m how lamps) (map (λ (x : Code). Some x) cs)) ≡ named_in rows cs
-  count_codes cs = count_mapped (says_asked rows.spns) (fault_of m how lamps) (map (λ (x : Code). Some x) cs)
+  count_codes cs = count_mapped (says_asked rows) (fault_of m how lamps) (map (λ (x : Code). Some x) cs)
       ∙ count_mapped (λ code. names_asked rows.spns code) (λ (x : Code). Some x) cs
 
   pub count_none : (cs : List Code) (n : ℕ) → named_in rows cs ≡ 0 → n ≡ one_if (names_asked rows.spns None) → n ≡ lines_in rows (told cs)
-  count_none [] n none is = is ∙ count_here (says_asked rows.spns) (fault_of m how lamps None)
+  count_none [] n none is = is ∙ count_here (says_asked rows) (fault_of m how lamps None)
   count_none (c ∷ cs) n none is = is ∙ cond-false _ _ _ (unnamed rows c cs none) ∙ sym none ∙ sym (count_codes (c ∷ cs))
 
   pub count_some : (cs : List Code) → named_in rows cs ≢ 0 → lines_in rows (told cs) ≡ named_in rows cs

@@ -7,14 +7,11 @@ use Rattle.j39_listen.specs.ReportSoFar.{made_by}
 use Rattle.j39_listen.proofs.LineLemmas.{capped-sum}
 use Rattle.j39_listen.proofs.ListenerLemmas.{hears_single, outside_claims, silent_outside}
 use Rattle.j39_fault_reports.specs.Broken.{announces_codes}
-use Rattle.j39_fault_reports.specs.CurrentSoFar.{HasKept, NowSubject}
 use Rattle.j39_fault_reports.specs.FaultsSoFar.{HasTold, Subject, announced_in, manner_of, with_frame}
 use Rattle.j39_fault_reports.specs.News.{chosen_of, is_fault_group}
-use Rattle.j39_fault_reports.specs.declared.current_faults.account.FaultsNow.{FaultsNow}
 use Rattle.j39_fault_reports.specs.declared.fault_news.account.FaultNews.{FaultNews}
 use Rattle.j39_fault_reports.specs.declared.fault_news.announced.Announced.{Announced}
 use Rattle.j39_fault_reports.proofs.BrokenLemmas.{announces_none}
-use Rattle.j39_fault_reports.proofs.CurrentAccountLemmas.{now_meets, takes_silent}
 use Rattle.j39_fault_reports.proofs.FaultAccountLemmas.{faults_leave, news_meets, same_announced, tells_nothing}
 
 -- it announces nothing
@@ -39,11 +36,3 @@ module _ (form : Format) (f : FrameRecord) (held : Option (List ℕ)) (other : i
         hears = hears_single a.listener G f free (outside_claims f free) hears;
         tells = tells_nothing a.writing.form (manner_of a.writing) (chosen_of a.choice) (first_stamp (G ++ f ∷ [])) a.last ms None (made_by None) held refl refl remembers refl refl;
       }) same F before has
-
-  pub now_passes : (s : NowSubject) (a : FaultsNow) → ((which : FilterRecord) (F : List FrameRecord) → Chooses which a.chooser F → Chooses which a.chooser (F ++ f ∷ []))
-      → Meets (HasKept form s) a a (f ∷ []) held held
-  now_passes s a notes = λ F before has.
-      let same : a.messages ≡ capped (a.messages + 0) = let fits = has.messages_are in omega (arith, fits) in
-      now_meets form s a a refl refl f 0 held notes (λ which G ms hears chosen kept. takes_silent which a.conversions.now G f a.listener a.places a.announced a.announced ms
-      (same_count F has.heard f a.announced free has.announced_is) (silent_outside is_fault_group faults_leave a.listener G f free other hears)
-      (hears_single a.listener G f free (outside_claims f free) hears) kept) same F before has

@@ -17,7 +17,7 @@ use Rattle.std.proofs.lemmas.Option.{none-some, same_Some}
 
 -- ---- the last message of a group from an address
 
-last_or-push : (o : Option Hearing) (xs : List Hearing) (x : Hearing) → last_or o (xs ++ x ∷ []) ≡ Some x
+pub last_or-push : {X : Type 0} (o : Option X) (xs : List X) (x : X) → last_or o (xs ++ x ∷ []) ≡ Some x
 last_or-push o [] x = refl
 last_or-push o (y ∷ xs) x = last_or-push (Some y) xs x
 

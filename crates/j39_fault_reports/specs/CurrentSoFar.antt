@@ -1,6 +1,7 @@
 -- The steps of a run that tells which faults are there now: nothing is written before its end.
-use Rattle.std.specs.Prelude.{◌≡◌, ◌+◌, ◌++◌, ◌∷◌, [], ◌<◌, ℕ, zero, suc, List, Option, Some, None, length, map}
+use Rattle.std.specs.Prelude.{◌≡◌, ◌+◌, ◌++◌, ◌∷◌, [], ◌<◌, ℕ, zero, suc, List, Option, Some, None, length, map, option_map}
 use Rattle.j39_frame.specs.Frame.{FrameRecord}
+use Rattle.j39_frame.specs.Stamp.{stamp_micros}
 use Rattle.j39_faults.specs.LampBits.{lamps_of}
 use Rattle.j39_faults.specs.declared.code.Code.{Code}
 use Rattle.j39_faults.specs.declared.conversion.Conversion.{Conversion}
@@ -13,10 +14,11 @@ use Rattle.j39_listen.specs.Listening.{Hears}
 use Rattle.j39_listen.specs.Output.{Output, nothing}
 use Rattle.j39_listen.specs.declared.format.Format.{Format}
 use Rattle.j39_listen.specs.declared.listener.Listener.{Listener}
-use Rattle.j39_fault_reports.specs.Faults.{Manner, codes_or_none}
+use Rattle.j39_fault_reports.specs.Faults.{Fault, Manner, Saying, codes_or_none, lights_since}
 use Rattle.j39_fault_reports.specs.CurrentPlaces.{LastRecord, LastActives, StandingRecord, at, name_in}
 use Rattle.j39_fault_reports.specs.Places.{IsKept}
-use Rattle.j39_fault_reports.specs.FaultsNow.{Now, codes_in, earliest, naming, now_taken}
+use Rattle.j39_fault_reports.specs.FaultsNow.{Now, Told, codes_in, earliest, lit, named, naming, now_taken}
+use Rattle.j39_fault_reports.specs.Silence.{last_stamp}
 use Rattle.j39_fault_reports.specs.Spoken.{active_among, spoken_in}
 use Rattle.j39_fault_reports.specs.FaultsSoFar.{IsBroken, announced_in, manner_of, with_either, with_frame}
 use Rattle.j39_fault_reports.specs.News.{is_fault_group}
@@ -77,9 +79,31 @@ unfoldable pub shown_below : LastActives → ℕ → List Now
 shown_below places zero = []
 shown_below places (suc n) = shown_below places n ++ nows_shown n (at places n)
 
+-- what its message says
+abbrev pub said_here : ℕ → LastRecord → Saying → Fault
+said_here a last saying = record {
+  stamp = last.stamp;
+  address = a;
+  destination = last.destination;
+  name = last.name;
+  pgn = last.pgn;
+  saying = saying;
+}
+
+abbrev pub lights_shown : ℕ → Option LastRecord → List Fault
+lights_shown a None = []
+lights_shown a (Some last) = lights_since [] last.lamps (said_here a last)
+
+abbrev pub told_shown : ℕ → Option LastRecord → List Told
+told_shown a place = map (λ f. lit f) (lights_shown a place) ++ map (λ n. named n) (nows_shown a place)
+
+unfoldable pub told_so_far : LastActives → ℕ → List Told
+told_so_far places zero = []
+told_so_far places (suc n) = told_so_far places n ++ told_shown n (at places n)
+
 -- those that are asked for
-abbrev pub taken_below : FilterRecord → ℕ → LastActives → ℕ → List Now
-taken_below which first places n = now_taken which first (shown_below places n)
+abbrev pub taken_below : FilterRecord → ℕ → LastActives → ℕ → List Told
+taken_below which first places n = now_taken which first (told_so_far places n)
 
 -- ---- one frame more
 
@@ -111,6 +135,7 @@ pub record HasKept (form : Format) (s : NowSubject) (account : FaultsNow) (F : L
   pub are_kept : AreKept s.conversions account.places (in_time s.which (stamp_of_first F) (active_among heard))
   pub messages_are : account.messages ≡ capped (length (active_among heard))
   pub announced_is : account.announced ≡ announced_in F heard
+  pub last_is : option_map stamp_micros account.last ≡ last_stamp s.which F
   pub nothing_yet : output ≡ nothing
 
 -- so many messages of codes were broken in the frames whose faults are kept

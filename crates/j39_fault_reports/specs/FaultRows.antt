@@ -12,7 +12,7 @@ use Rattle.j39_faults.specs.declared.text.State.{State}
 use Rattle.j39_faults.specs.declared.text.State.TheVariants.{Is, Became}
 use Rattle.j39_groups.specs.Row.{RowRecord}
 use Rattle.j39_listen.specs.declared.format.Format.{Format}
-use Rattle.j39_fault_reports.specs.Faults.{Fault, Manner, Saying, clears, name_in, says, says_asked}
+use Rattle.j39_fault_reports.specs.Faults.{Fault, Manner, Saying, clears, lights, name_in, says, says_asked}
 use Rattle.j39_fault_reports.specs.declared.fault_news.telling.Telling.{Telling}
 use Rattle.j39_fault_reports.specs.declared.fault_news.telling.Telling.TheVariants.{Changes}
 use Rattle.j39_rows.specs.Row.{CellRecord, ColumnRecord, HeadRecord, address_cell, aside, beside_lines, dash, if_any, in_all, name_column, nothing, number_cell, or_nothing, plain, row_text, seconds, text, text_or_nothing, utc_cell, word}
@@ -43,7 +43,7 @@ message_head stamp address destination name = record {
 abbrev pub uncoded : List ℕ → List ℕ → List ℕ → CellRecord → List ℕ → List ColumnRecord
 uncoded name how spn lamps meaning =
     in_all name dash (plain (word how)) ∷ in_all (codes "spn") dash (aside spn) ∷ in_all (codes "fmi") dash nothing
-    ∷ in_all (codes "count") (if_any (codes " ")) nothing ∷ in_all (codes "lamps") dash lamps
+    ∷ in_all (codes "count") (if_any (codes " ")) nothing ∷ beside_lines (codes "lamps") lamps
     ∷ in_all (codes "parameter") (if_any (codes " ")) nothing ∷ beside_lines (codes "meaning") (text meaning) ∷ []
 
 -- the parameter's number, where it is known
@@ -56,7 +56,7 @@ abbrev pub coded : List ℕ → List ℕ → CellRecord → List ℕ → Code �
 coded name how lamps parameter code =
     in_all name dash (plain (word how)) ∷ in_all (codes "spn") dash (spn_cell code.parameter)
     ∷ in_all (codes "fmi") dash (number_cell code.fmi) ∷ in_all (codes "count") dash (or_nothing number_cell code.count)
-    ∷ in_all (codes "lamps") dash lamps ∷ in_all (codes "parameter") (if_any (codes " ")) (text parameter)
+    ∷ beside_lines (codes "lamps") lamps ∷ in_all (codes "parameter") (if_any (codes " ")) (text parameter)
     ∷ in_all (codes "meaning") (if_any (codes ": ")) (text (fmi_words code.fmi)) ∷ []
 
 -- the state, or what became of a code
@@ -72,23 +72,32 @@ said_columns rows how lamps (Some code) =
     coded (state_name how) (state_text how) (text_or_nothing (lamps_told lamps))
     (unwrap_or (name_in rows code) (parameter_words code.parameter)) code
 
+-- a line of lamps has these alone behind what it begins with
+abbrev pub lights_columns : CellRecord → List ColumnRecord
+lights_columns lamps =
+    in_all (codes "state") dash (plain (word (codes "lamps"))) ∷ beside_lines (codes "spn") nothing
+    ∷ beside_lines (codes "fmi") nothing ∷ beside_lines (codes "count") nothing ∷ in_all (codes "lamps") dash lamps
+    ∷ beside_lines (codes "parameter") nothing ∷ beside_lines (codes "meaning") nothing ∷ []
+
 -- that the codes of a kind are to be cleared
 abbrev pub clearing_columns : Kind → List ColumnRecord
 clearing_columns kind = uncoded (codes "state") (clear_text kind) (codes "all") nothing (codes "all codes")
 
 abbrev pub saying_columns : List RowRecord → Saying → List ColumnRecord
+saying_columns rows (lights lamps) = lights_columns (text_or_nothing (lamps_told lamps))
 saying_columns rows (says how lamps code) = said_columns rows how lamps code
 saying_columns rows (clears kind) = clearing_columns kind
 
 -- what the column of the state is called in its row
 abbrev pub saying_name : Saying → List ℕ
+saying_name (lights lamps) = codes "state"
 saying_name (says how lamps code) = state_name how
 saying_name (clears kind) = codes "state"
 
 -- if its code is asked for
 abbrev pub fault_in : Format → Manner → Fault → List ℕ
 fault_in form manner f =
-    if says_asked manner.spns f
+    if says_asked manner f
     then row_text form (message_head f.stamp f.address f.destination f.name) (saying_columns manner.rows f.saying) else []
 
 unfoldable pub faults_text : Format → Manner → List Fault → List ℕ

@@ -1,10 +1,11 @@
 -- What is told of a message of faults (own).
-use Rattle.std.specs.Prelude.{◌==◌, ◌||◌, ℕ, Bool, true, false, List, [], ◌∷◌, Option, Some, None, count_by, filter, map}
+use Rattle.std.specs.Prelude.{◌==◌, ◌&&◌, ◌++◌, ◌||◌, ℕ, Bool, true, false, List, [], ◌∷◌, Option, Some, None, bytes_eq, count_by, filter, if◌then◌else◌, map}
 use Rattle.std.specs.List.{list_any}
 use Rattle.std.specs.Option.{option_or}
 use Rattle.j39_faults.specs.Conversions.{codes_by, version_for}
 use Rattle.j39_faults.specs.FaultGroups.{cleared_in, kind_of}
 use Rattle.j39_faults.specs.LampBits.{lamps_of}
+use Rattle.j39_faults.specs.Text.{lamps_told}
 use Rattle.j39_faults.specs.declared.text.State.{State}
 use Rattle.j39_faults.specs.declared.text.State.TheVariants.{Is}
 use Rattle.j39_faults.specs.declared.code.Code.{Code}
@@ -18,11 +19,14 @@ use Rattle.j39_groups.specs.Names.{parameter_name}
 use Rattle.j39_groups.specs.Row.{RowRecord}
 use Rattle.j39_listen.specs.Filter.{FilterRecord, asks_for}
 use Rattle.j39_listen.specs.Heard.{Hearing}
+use Rattle.j39_listen.specs.declared.format.Format.{Format}
+use Rattle.j39_listen.specs.declared.format.Format.TheVariants.{Line, Object, Record}
 use Rattle.j39_names.specs.Called.{parameter_called}
 
--- a code of a kind, what became of it, or that a message has none, and with which lamps; or that the codes of a kind are to be
--- cleared
+-- the lamps of who sent it; a code of a kind, what became of it, or that a message has none, and with which lamps; or that the codes
+-- of a kind are to be cleared
 pub data Saying : Type 0 where
+  lights : Lamps → Saying
   says : State → Lamps → Option Code → Saying
   clears : Kind → Saying
 
@@ -35,15 +39,18 @@ pub record Fault : Type 0 where
   pub pgn : ℕ
   pub saying : Saying
 
-abbrev pub said_at : Hearing → Saying → Fault
-said_at m saying = record {
+abbrev pub said_from : ℕ → Hearing → Saying → Fault
+said_from address m saying = record {
   stamp = m.stamp;
-  address = m.message.source;
+  address = address;
   destination = m.destination;
   name = m.name;
   pgn = m.message.pgn;
   saying = saying;
 }
+
+abbrev pub said_at : Hearing → Saying → Fault
+said_at m saying = said_from m.message.source m saying
 
 -- the message that said it is asked for
 abbrev pub asks_fault : FilterRecord → ℕ → Fault → Bool
@@ -59,6 +66,10 @@ fault_of m how lamps code = said_at m (says how lamps code)
 abbrev pub clearing_of : Hearing → Kind → Fault
 clearing_of m kind = said_at m (clears kind)
 
+-- the lamps are told once, before the codes, if they weren't told so before: in these words, of which there are none where all are off
+abbrev pub lights_since : List ℕ → Lamps → (Saying → Fault) → List Fault
+lights_since before lamps said = if bytes_eq (lamps_told lamps) before then [] else said (lights lamps) ∷ []
+
 -- each code, in order; of no code, that there is none
 abbrev pub codes_or_none : List Code → List (Option Code)
 codes_or_none [] = None ∷ []
@@ -68,7 +79,7 @@ abbrev pub faults_by : Option Version → Hearing → Option Kind → Option Lam
 faults_by version m None lamps = []
 faults_by version m (Some kind) None = []
 faults_by version m (Some kind) (Some lamps) =
-    map (fault_of m (Is kind) lamps) (codes_or_none (codes_by version m.message.bytes))
+    lights_since [] lamps (said_at m) ++ map (fault_of m (Is kind) lamps) (codes_or_none (codes_by version m.message.bytes))
 
 -- which codes it asks to clear, or which it tells, by the version of the conversion for its controller
 abbrev pub faults_or_clearing : List Conversion → Hearing → Option Kind → List Fault
@@ -78,10 +89,20 @@ faults_or_clearing conversions m None =
 
 -- ---- what is asked for by its SPN
 
--- by which table faults are written, and of which parameters alone, where some are asked for
+-- by which table faults are written, of which parameters alone, where some are asked for, and whether lamps have a line of their own
 pub record Manner : Type 0 where
   pub rows : List RowRecord
   pub spns : Option (List ℕ)
+  pub lights : Bool
+
+-- each record and each object of a code has its lamps
+abbrev pub has_lights : Format → Bool
+has_lights (Line clock) = true
+has_lights Record = false
+has_lights Object = false
+
+abbrev pub manner_in : Format → List RowRecord → Option (List ℕ) → Manner
+manner_in form rows spns = record { rows = rows; spns = spns; lights = has_lights form }
 
 abbrev pub is_number_of : List ℕ → ℕ → Bool
 is_number_of spns spn = list_any (λ asked. asked == spn) spns
@@ -98,16 +119,20 @@ names_asked None code = true
 names_asked (Some spns) None = false
 names_asked (Some spns) (Some code) = is_parameter_of spns code.parameter
 
-abbrev pub saying_asked : Option (List ℕ) → Saying → Bool
-saying_asked spns (says how lamps code) = names_asked spns code
-saying_asked spns (clears kind) = names_asked spns None
+abbrev pub lights_asked : Manner → Bool
+lights_asked manner = manner.lights && names_asked manner.spns None
 
-abbrev pub says_asked : Option (List ℕ) → Fault → Bool
-says_asked spns f = saying_asked spns f.saying
+abbrev pub saying_asked : Manner → Saying → Bool
+saying_asked manner (lights lamps) = lights_asked manner
+saying_asked manner (says how lamps code) = names_asked manner.spns code
+saying_asked manner (clears kind) = names_asked manner.spns None
+
+abbrev pub says_asked : Manner → Fault → Bool
+says_asked manner f = saying_asked manner f.saying
 
 -- how many of these lines there are
 abbrev pub lines_in : Manner → List Fault → ℕ
-lines_in manner faults = count_by (says_asked manner.spns) faults
+lines_in manner faults = count_by (says_asked manner) faults
 
 -- what is told of a message
 abbrev pub faults_in : List Conversion → Hearing → List Fault

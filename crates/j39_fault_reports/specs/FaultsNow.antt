@@ -9,7 +9,7 @@ use Rattle.j39_faults.specs.declared.lamps.Lamps.{Lamps}
 use Rattle.j39_listen.specs.Counting.{capped}
 use Rattle.j39_listen.specs.Filter.{FilterRecord, asks_for}
 use Rattle.j39_listen.specs.Heard.{Hearing}
-use Rattle.j39_fault_reports.specs.Faults.{codes_or_none}
+use Rattle.j39_fault_reports.specs.Faults.{Fault, asks_fault, codes_or_none, lights_since, said_from}
 use Rattle.j39_fault_reports.specs.Spoken.{spoken_in}
 
 -- ---- since when it names a code, or that there is none
@@ -84,12 +84,41 @@ now_below conversions ms (suc n) = now_below conversions ms n ++ now_at conversi
 abbrev pub faults_now : List Conversion → List Hearing → List Now
 faults_now conversions ms = now_below conversions ms 256
 
+-- ---- before the codes of a controller its lamps are told, if they aren't all off
+
+pub data Told : Type 0 where
+  lit : Fault → Told
+  named : Now → Told
+
+abbrev pub lights_by : ℕ → Hearing → Option Lamps → List Fault
+lights_by address m None = []
+lights_by address m (Some lamps) = lights_since [] lamps (said_from address m)
+
+-- those of its last message
+abbrev pub lights_in : ℕ → List Hearing → List Fault
+lights_in address [] = []
+lights_in address (m ∷ before) = lights_by address m (lamps_of m.message.bytes)
+
+abbrev pub told_at : List Conversion → List Hearing → ℕ → List Told
+told_at conversions ms address =
+    map (λ f. lit f) (lights_in address (spoken_in ms address)) ++ map (λ n. named n) (now_at conversions ms address)
+
+-- at the addresses below n, in order
+unfoldable pub told_below : List Conversion → List Hearing → ℕ → List Told
+told_below conversions ms zero = []
+told_below conversions ms (suc n) = told_below conversions ms n ++ told_at conversions ms n
+
+-- at all
+abbrev pub told_now : List Conversion → List Hearing → List Told
+told_now conversions ms = told_below conversions ms 256
+
 -- ---- what is asked for
 
 -- the message by which it was told last is asked for
-abbrev pub asks_now : FilterRecord → ℕ → Now → Bool
-asks_now which first n = asks_for which first n.last n.address n.name n.destination n.pgn
+abbrev pub asks_now : FilterRecord → ℕ → Told → Bool
+asks_now which first (lit f) = asks_fault which first f
+asks_now which first (named n) = asks_for which first n.last n.address n.name n.destination n.pgn
 
 -- those that are asked for, in order
-abbrev pub now_taken : FilterRecord → ℕ → List Now → List Now
-now_taken which first ns = filter (asks_now which first) ns
+abbrev pub now_taken : FilterRecord → ℕ → List Told → List Told
+now_taken which first ts = filter (asks_now which first) ts

@@ -1,5 +1,5 @@
 -- The steps of a run that tells faults, frame by frame.
-use Rattle.std.specs.Prelude.{◌≡◌, ◌++◌, ◌∷◌, [], ℕ, Bool, true, false, List, Option, if◌then◌else◌, length, option_map, None, Some, Err, IfOk, OnOk, Result, ◌<◌, ◌^◌, ◌+◌, count_by}
+use Rattle.std.specs.Prelude.{◌≡◌, ◌++◌, ◌∷◌, [], ℕ, Bool, true, false, List, Option, bytes_eq, ◌&&◌, not, if◌then◌else◌, length, option_map, None, Some, Err, IfOk, OnOk, Result, ◌<◌, ◌^◌, ◌+◌, count_by}
 use Rattle.std.specs.Io.KnownBytes.{Appends}
 use Rattle.j39_io.specs.Device.{AppendsFront}
 use Rattle.j39_io.specs.Turn.{Turn}
@@ -9,6 +9,7 @@ use Rattle.j39_listen.specs.declared.account.LineFault.{LineFault}
 use Rattle.j39_listen.specs.declared.account.LineFault.TheVariants.{Write}
 use Rattle.std.specs.List.{flat_map}
 use Rattle.j39_faults.specs.Changes.{change_since, clearing_by}
+use Rattle.j39_faults.specs.Text.{lamps_told}
 use Rattle.j39_faults.specs.declared.change.Change.{Change}
 use Rattle.j39_faults.specs.declared.code.Code.{Code}
 use Rattle.j39_faults.specs.declared.conversion.Version.{Version}
@@ -24,15 +25,15 @@ use Rattle.j39_listen.specs.ReportSoFar.{made_of}
 use Rattle.j39_listen.specs.declared.counts.Made.{Made}
 use Rattle.j39_listen.specs.declared.listener.Listener.{Listener}
 use Rattle.j39_faults.specs.declared.text.State.{State}
-use Rattle.j39_fault_reports.specs.Faults.{Fault, Manner, faults_by, faults_taken, lines_in, names_asked}
+use Rattle.j39_fault_reports.specs.Faults.{Fault, Manner, faults_by, faults_taken, lights_asked, lines_in, manner_in, names_asked}
 use Rattle.std.specs.Borrow.{Bor}
 use Rattle.j39_fault_reports.specs.declared.fault_news.form.Writing.{Writing}
 use Rattle.j39_fault_reports.specs.FaultChanges.{became, changes_by}
 use Rattle.j39_fault_reports.specs.Told.{told_here}
 use Rattle.j39_fault_reports.specs.News.{Chosen, chosen_of, faults_among, is_fault_group, is_of_faults}
 use Rattle.j39_fault_reports.specs.FaultRun.{faults_of}
-use Rattle.j39_fault_reports.specs.FaultRows.{faults_text, said_columns}
-use Rattle.j39_rows.specs.Row.{HeadRecord, row_text}
+use Rattle.j39_fault_reports.specs.FaultRows.{faults_text, lights_columns, said_columns}
+use Rattle.j39_rows.specs.Row.{HeadRecord, row_text, text_or_nothing}
 use Rattle.j39_fault_reports.specs.LastMessages.{LastRecord, differs, said_before}
 use Rattle.j39_fault_reports.specs.Remembered.{Remembers, tells_changes}
 use Rattle.j39_fault_reports.specs.Broken.{announces_codes, broken_in, is_whole}
@@ -51,12 +52,20 @@ abbrev pub spns_now : Option (Bor (List ℕ)) → Option (List ℕ)
 spns_now = option_map (λ spns. spns.now)
 
 abbrev pub manner_of : Writing → Manner
-manner_of w = record { rows = w.groups.now; spns = spns_now w.spns }
+manner_of w = manner_in w.form w.groups.now (spns_now w.spns)
 
 -- what is said behind what stands before it, if its code is asked for
 abbrev pub line_of : Format → HeadRecord → Manner → State → Lamps → Option Code → List ℕ
 line_of form head manner how lamps code =
     if names_asked manner.spns code then row_text form head (said_columns manner.rows how lamps code) else []
+
+-- whether lamps are told behind what was told of them before, and their line behind what stands before it
+abbrev pub are_lit : Manner → List ℕ → Lamps → Bool
+are_lit manner before lamps = not (bytes_eq (lamps_told lamps) before) && lights_asked manner
+
+abbrev pub lights_line : Format → HeadRecord → Manner → List ℕ → Lamps → List ℕ
+lights_line form head manner before lamps =
+    if are_lit manner before lamps then row_text form head (lights_columns (text_or_nothing (lamps_told lamps))) else []
 
 -- what is told of a message, where it is told
 abbrev pub told_faults : Bool → List Fault → List Fault

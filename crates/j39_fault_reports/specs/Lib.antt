@@ -17,6 +17,7 @@ pub mod Spoken
 pub mod Places
 -- the faults that are there now: which, their text, and what a run makes of the frames
 pub mod FaultsNow
+pub mod Silence
 pub mod FaultsNowRun
 -- the faults that are there now: the code's steps, below the rules
 pub mod CurrentPlaces

@@ -6,6 +6,7 @@ pub(crate) mod last_actives;
 pub mod laws;
 mod lines;
 mod run;
+mod silence;
 pub(crate) mod standing;
 
 pub use account::take_heard;

@@ -274,7 +274,8 @@ impl<'g, 't, F: SideForm> KnownSides<'g, 't, F> {
         ensures { (place : ℕ) × (place < 256) × ((d : Sides)
             → result ≡ missed_by (slice_index_or self.now.known place d) pgn spn unit) }
     {
-        if self.known[place_of(pgn, spn)].is_open_to(pgn, spn, unit) {
+        let held = self.known[place_of(pgn, spn)];
+        if held.is_open_to(pgn, spn, unit) {
             Some(Missed { spn, unit })
         } else {
             None

@@ -26,7 +26,9 @@ use Rattle.j39_survey.proofs.SurveyLemmas.{same_survey}
 use Rattle.j39_listen.proofs.ReportAccount.{report_one}
 use Rattle.j39_fault_reports.proofs.FaultAccountLemmas.{news_one}
 use Rattle.j39_reports.proofs.SummaryAccountLemmas.{records_one}
+use Rattle.j39_fault_reports.specs.Faults.{manner_in}
 use Rattle.j39_fault_reports.specs.News.{news}
+use Rattle.j39_listen.specs.declared.format.Format.TheVariants.{Line}
 use Rattle.j39_web.specs.SeriesSoFar.{series_form}
 use Rattle.j39_web.proofs.SeriesAccountLemmas.{whole_one}
 use Rattle.j39_web.specs.Text.{IsFullOf, Overflows, SurveyOverflows, no_counts}
@@ -40,7 +42,7 @@ makes_one Report rows = whole_one (λ table. entry_text) rows
 makes_one Records rows = λ bus F x y (a, made_a, is_a) (b, made_b, is_b).
     ap (λ (o : Output). o.text) is_a ∙ ap (λ t. header_text ++ t) (report_one entry_record (record { rows = rows; which = no_filter }) bus F a b made_a made_b) ∙ sym (ap (λ (o : Output). o.text) is_b)
 makes_one Summary rows = records_one no_filter rows
-makes_one Faults rows = news_one Seconds (record { manner = record { rows = rows; spns = None }; which = news })
+makes_one Faults rows = news_one Seconds (record { manner = manner_in (Line Seconds) rows None; which = news })
 makes_one (Series of) rows = whole_one (series_form of) rows
 
 first : ℕ → List ℕ → ℕ

@@ -10,6 +10,7 @@ use Rattle.j39_listen.specs.declared.format.Format.TheVariants.{Line, Record}
 use Rattle.j39_reports.specs.EntryText.{header_text}
 use Rattle.j39_fault_reports.specs.FaultAsking.{AsksForFaults}
 use Rattle.j39_fault_reports.specs.FaultRun.{MakesFaults}
+use Rattle.j39_fault_reports.specs.Faults.{manner_in}
 use Rattle.j39_reports.specs.ReportRecords.{MakesRecords}
 use Rattle.j39_reports.specs.SummaryRun.{AsksForRows, MakesSummary}
 use Rattle.j39_fault_reports.specs.News.{news}
@@ -27,7 +28,7 @@ abbrev pub makes : Writing → List RowRecord → Making
 makes Report = MakesReport
 makes Records = MakesTable
 makes Summary = MakesSummary Record no_filter
-makes Faults = λ rows. MakesFaults (Line Seconds) (record { rows = rows; spns = None }) news
+makes Faults = λ rows. MakesFaults (Line Seconds) (manner_in (Line Seconds) rows None) news
 makes (Series of) = MakesSeries of
 
 -- at which frames memory is wanted

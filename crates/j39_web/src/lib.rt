@@ -5,6 +5,7 @@ ghost use Rattle.std.specs.Prelude.{◌≡◌, ◌≢◌, ◌<◌, ◌≤◌, �
 ghost use Rattle.j39_address.specs.Name.{fields_of};
 ghost use Rattle.j39_fault_reports.specs.FaultAsking.{AsksForFaults};
 ghost use Rattle.j39_fault_reports.specs.FaultRun.{MakesFaults};
+ghost use Rattle.j39_fault_reports.specs.Faults.{manner_in};
 ghost use Rattle.j39_fault_reports.specs.News.{news};
 ghost use Rattle.j39_fault_reports.specs.declared.fault_news.telling.Telling.TheVariants.{News};
 ghost use Rattle.j39_groups.specs.Printed.{rows_text};
@@ -152,7 +153,7 @@ pub extern "C" fn j39_faults(
 ) -> u32
     // What is written is the faults that are told in the log's frames. Memory is wanted at a frame that announces a
     // message, and at one at which an address says its codes for the first time.
-    ensures { Tells (ByTable table.now) (λ rows. MakesFaults (Line Seconds) (record { rows = rows; spns = None }) news)
+    ensures { Tells (ByTable table.now) (λ rows. MakesFaults (Line Seconds) (manner_in (Line Seconds) rows None) news)
         (λ _. AsksSomewhere (AsksForFaults News no_filter) (given_bus bus.now) log.now)
         log.now bus.now table.now room.old room.new text.old text.new result }
 {

@@ -17,17 +17,19 @@ ghost use Rattle.j39_fault_reports.specs.News.{is_fault_group};
 
 use crate::current_faults::last_actives::LastActives;
 use crate::current_faults::lines::put_places;
-use crate::fault_news::account::{is_byte, is_of_fault_group, is_passed_over};
+use crate::current_faults::silence::last_with;
+use crate::fault_news::account::{is_byte, is_of_fault_group};
 use crate::fault_news::announced::Announced;
 use crate::fault_news::form::Writing;
 use j39_faults::{Conversion, Kind, fault_group, lamps_of};
-use j39_frame::{Frame, Id};
+use j39_frame::{Frame, Stamp};
 use j39_io::{DeviceFault, Sink};
 use j39_listen::{Account, Chooser, Filter, Heard, LineFault, Listener, Made};
 use j39_log::Bus;
 use std::alloc::{AllocError, Global};
 
-/// What is heard so far, what the last messages of active codes say, and how many there were.
+/// What is heard so far, what the last messages of active codes say, how many there were, and the stamp of the last frame between the
+/// moments.
 #[derive(Drop)]
 pub(crate) struct FaultsNow<'g, 't, 'c> {
     alloc: Global,
@@ -38,6 +40,7 @@ pub(crate) struct FaultsNow<'g, 't, 'c> {
     places: LastActives,
     messages: u64,
     announced: Announced,
+    last: Option<Stamp>,
 }
 
 impl<'g, 't, 'c> FaultsNow<'g, 't, 'c> {
@@ -60,6 +63,7 @@ impl<'g, 't, 'c> FaultsNow<'g, 't, 'c> {
             places: LastActives::new(),
             messages: 0,
             announced: Announced::default(),
+            last: None,
         }
     }
 
@@ -85,14 +89,9 @@ impl<'g, 't, 'c> Account for FaultsNow<'g, 't, 'c> {
 
     ghost asks = { λ subject. AsksForFaultsNow subject.1.which };
 
-    /// Most frames are of groups that nobody hears.
-    #[inline(always)]
-    fn passes_over(&self, id: Id) -> bool {
-        is_passed_over(id) && self.chooser.is_begun()
-    }
-
     fn feed<W: Sink>(&mut self, _: &Bus, frame: &Frame, _: &mut W) -> Result<(), LineFault> {
         self.chooser.note(frame);
+        self.last = last_with(&self.chooser, self.last, frame);
         match take_frame(
             self.alloc,
             &mut self.listener,
@@ -111,7 +110,7 @@ impl<'g, 't, 'c> Account for FaultsNow<'g, 't, 'c> {
     }
 
     fn close<W: Sink>(&self, sink: &mut W) -> Result<Made, DeviceFault> {
-        let lines = put_places(&self.places, self.writing, &self.chooser, sink)?;
+        let lines = put_places(&self.places, self.writing, &self.chooser, self.last, sink)?;
         Ok(Made {
             messages: self.messages,
             lines,

@@ -1,5 +1,5 @@
 //! Laws about the definitions, each the contract of a function that does nothing.
-ghost use Rattle.std.specs.Prelude.{◌≡◌, ◌↔◌, [], ℕ, List, None, Some};
+ghost use Rattle.std.specs.Prelude.{◌≡◌, ◌↔◌, [], ℕ, List, None, Option, Some};
 ghost use Rattle.j39_faults.specs.Changes.{change_since};
 ghost use Rattle.j39_faults.specs.Conversions.{codes_by};
 ghost use Rattle.j39_faults.specs.declared.change.Change.TheVariants.{Set};
@@ -12,7 +12,7 @@ ghost use Rattle.j39_listen.specs.declared.format.Format.{Format};
 ghost use Rattle.j39_fault_reports.specs.Faults.{Manner};
 ghost use Rattle.j39_listen.specs.Heard.{Hearing};
 ghost use Rattle.j39_fault_reports.specs.FaultChanges.{last_bytes};
-ghost use Rattle.j39_fault_reports.specs.FaultsNow.{Now, naming, now_taken};
+ghost use Rattle.j39_fault_reports.specs.FaultsNow.{Now, Told, naming, now_taken};
 ghost use Rattle.j39_fault_reports.specs.Spoken.{sent_before, spoken_in};
 ghost use Rattle.j39_fault_reports.specs.FaultRows.{said_columns};
 ghost use Rattle.j39_fault_reports.specs.FaultsNowRun.{MakesFaultsNowIn, now_columns, now_head};
@@ -41,11 +41,11 @@ pub fn set_where_it_begins()
 
 /// Without a filter all is taken.
 pub fn filters()
-    ensures all { (first : ℕ) (faults : List Now) → now_taken no_filter first faults ≡ faults }
+    ensures all { (first : ℕ) (faults : List Told) → now_taken no_filter first faults ≡ faults }
 {}
 
 /// The names above the records are those of each row's columns.
 pub fn names()
-    ensures { (rows : List RowRecord) (n : Now)
-        → names_text (now_head n) (said_columns rows (Is Active) n.lamps n.code) ≡ now_columns }
+    ensures { (rows : List RowRecord) (till : Option ℕ) (n : Now)
+        → names_text (now_head till n) (said_columns rows (Is Active) n.lamps n.code) ≡ now_columns }
 {}

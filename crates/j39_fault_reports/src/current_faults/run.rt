@@ -5,6 +5,7 @@ ghost use Rattle.j39_listen.specs.Chooses.{which_of};
 ghost use Rattle.j39_listen.specs.Headed.{begins_flushed};
 ghost use Rattle.j39_listen.specs.Ran.{PassesOn};
 ghost use Rattle.j39_fault_reports.specs.Broken.{ToldFaults};
+ghost use Rattle.j39_fault_reports.specs.Faults.{manner_in};
 ghost use Rattle.j39_fault_reports.specs.FaultsSoFar.{spns_now};
 ghost use Rattle.j39_fault_reports.specs.FaultsNowRun.{AsksForFaultsNow, MakesFaultsNow};
 
@@ -20,11 +21,12 @@ use std::alloc::Global;
 
 /// The names of the columns of records.
 const COLUMNS: &[u8] =
-    b"first_stamp,first_utc,address,name,last_stamp,last_utc,messages,state,spn,fmi,count,lamps,parameter,meaning\r\n";
+    b"first_stamp,first_utc,address,name,last_stamp,last_utc,messages,silent,state,spn,fmi,count,lamps,parameter,meaning\r\n";
 
 /// Writes which faults are there at the end of a log of at most `limit` bytes: a line, a record of comma-separated
 /// values (RFC 4180), or an object (RFC 8259), for each code that the last message of DM1 of each controller names, or one that it names none, in
-/// the order of their addresses; since when, and in how many messages one behind the other. With a filter, of the messages between
+/// the order of their addresses; since when, and in how many messages one behind the other. Before its lines stands one of its lamps, if
+/// they aren't all off. With a filter, of the messages between
 /// its moments, and those whose last message it takes. The names of the columns of records are written before the log is read. Without a bus it is that of the
 /// first frame in the log.
 pub fn faults_now<R: Source, W: Sink>(
@@ -42,7 +44,7 @@ pub fn faults_now<R: Source, W: Sink>(
     // What the run promises is `Ran`: what is written is what the filter takes of the faults that are there at the end of the
     // log, and nothing else. Memory is wanted only at a frame of the log that announces a message, or at the first message of active codes
     // of its address between the moments. And it counts which messages of codes were broken.
-    ensures told { ToldFaults (MakesFaultsNow format (record { rows = groups.now; spns = spns_now spns.entry }) conversions.now (which_of filter.entry)) (AsksForFaultsNow (which_of filter.entry)) bus limit result
+    ensures told { ToldFaults (MakesFaultsNow format (manner_in format groups.now (spns_now spns.entry)) conversions.now (which_of filter.entry)) (AsksForFaultsNow (which_of filter.entry)) bus limit result
         (turn R.remaining R.has_failed source.old source.new) (turn W.written W.has_failed sink.old sink.new) }
 
     // What was written is passed on at the end, and before each read, the names of the columns before the first.

@@ -1,12 +1,13 @@
 //! The lines of what became of active codes, from one message of DM1 to the next, or the records.
-ghost use Rattle.std.specs.Prelude.{◌≡◌, ◌≤◌, IfOk, length, option_map};
+ghost use Rattle.std.specs.Prelude.{◌≡◌, ◌<◌, ◌≤◌, ◌+◌, ◌^◌, IfOk, length, option_map};
 ghost use Rattle.j39_io.specs.Puts.{Puts};
 ghost use Rattle.j39_io.specs.Turn.{turn};
 ghost use Rattle.j39_address.specs.Name.{name_raw};
 ghost use Rattle.j39_faults.specs.Conversions.{codes_by};
+ghost use Rattle.j39_faults.specs.LampBits.{lamps_of};
 ghost use Rattle.j39_frame.specs.Stamp.{stamp_micros};
 ghost use Rattle.j39_listen.specs.HeardModel.{hearing_of};
-ghost use Rattle.j39_fault_reports.specs.FaultChanges.{became, changes_by};
+ghost use Rattle.j39_fault_reports.specs.FaultChanges.{became, changes_by, code_changes, words_of};
 ghost use Rattle.j39_fault_reports.specs.FaultRows.{faults_text, message_head};
 ghost use Rattle.j39_rows.specs.Models.{head_of};
 ghost use Rattle.j39_fault_reports.specs.FaultsSoFar.{change_by, changed, manner_of};
@@ -14,9 +15,10 @@ ghost use Rattle.j39_fault_reports.specs.Faults.{lines_in};
 
 use crate::fault_news::columns::message_columns;
 use crate::fault_news::form::{Saying, Writing};
-use crate::fault_news::lines::{message_head, put_fault};
+use crate::fault_news::lines::{message_head, put_fault, put_lights};
 use j39_faults::{
-    Change, Code, Lamps, State, Version, change_since, clearing_by, code_by, codes_of,
+    Change, Code, Lamps, LampsText, State, Version, change_since, clearing_by, code_by, codes_of,
+    lamps_of, lamps_told,
 };
 use j39_io::{DeviceFault, Sink};
 use j39_listen::Heard;
@@ -29,7 +31,8 @@ pub(crate) enum Side {
     Earlier,
 }
 
-/// Writes a line for each code that changed from a payload to the message behind it, and answers how many.
+/// Writes a line for the lamps, if they changed from a payload to the message behind it, and one for each code that did, and answers
+/// how many.
 pub(crate) fn put_changes<W: Sink>(
     heard: &Heard<'_>,
     writing: Writing<'_, '_>,
@@ -44,6 +47,29 @@ pub(crate) fn put_changes<W: Sink>(
 {
     let columns = message_columns(heard);
     let head = message_head(heard, &columns);
+    let words = words_in(before);
+    let lit = put_lights(head, writing, words.as_slice(), lamps, sink)?;
+    let coded = put_code_changes(heard, head, writing, version, lamps, before, sink)?;
+    Ok(lit + coded)
+}
+
+/// Writes a line for each code that changed from a payload to the message behind it, and answers how many.
+fn put_code_changes<W: Sink>(
+    heard: &Heard<'_>,
+    head: Head<'_>,
+    writing: Writing<'_, '_>,
+    version: Option<Version>,
+    lamps: Lamps,
+    before: &[u8],
+    sink: &mut W,
+) -> Result<u64, DeviceFault>
+    requires { head_of head ≡ message_head (stamp_micros heard.now.message.stamp) heard.now.message.source
+        heard.now.destination (option_map name_raw heard.now.name) }
+    ensures lines { IfOk result (λ n. n ≡ lines_in (manner_of writing.entry) (code_changes version before.now (hearing_of heard.now) lamps)) }
+    ensures few { IfOk result (λ n. n + 1 < 2 ^ 64) }
+    ensures puts { Puts (faults_text writing.entry.form (manner_of writing.entry) (code_changes version before.now (hearing_of heard.now) lamps))
+        result (turn W.written W.has_failed sink.old sink.new) }
+{
     let payload = heard.message.payload;
     let later = put_changed(
         heard,
@@ -68,6 +94,16 @@ pub(crate) fn put_changes<W: Sink>(
         sink,
     )?;
     Ok(later + earlier)
+}
+
+/// What was told of the lamps of a payload; nothing where it has none.
+fn words_in(payload: &[u8]) -> LampsText
+    ensures { result.items ≡ words_of (lamps_of payload.now) }
+{
+    match lamps_of(payload) {
+        Some(lamps) => lamps_told(lamps),
+        None => LampsText::new(),
+    }
 }
 
 /// Writes a line for each code of a payload that changed, the other message having these, and answers how many.

@@ -1,7 +1,7 @@
 //! How faults are written.
 ghost use Rattle.std.specs.Prelude.{◌≡◌};
-ghost use Rattle.j39_fault_reports.specs.Faults.{is_number_of, is_parameter_of, names_asked};
-ghost use Rattle.j39_fault_reports.specs.FaultsSoFar.{spns_now};
+ghost use Rattle.j39_fault_reports.specs.Faults.{has_lights, is_number_of, is_parameter_of, lights_asked, names_asked};
+ghost use Rattle.j39_fault_reports.specs.FaultsSoFar.{manner_of, spns_now};
 
 use j39_faults::{Code, Lamps, Parameter, State};
 use j39_groups::Groups;
@@ -13,6 +13,23 @@ pub(crate) struct Writing<'g, 't> {
     pub form: Format,
     pub groups: &'g Groups<'t>,
     pub spns: Option<&'g [u32]>,
+}
+
+/// Whether lamps have a line of their own.
+pub(crate) fn lights_asked(writing: Writing<'_, '_>) -> bool
+    ensures { result ≡ lights_asked (manner_of writing.entry) }
+{
+    has_lights(writing.form) && names_asked(writing.spns, None)
+}
+
+fn has_lights(form: Format) -> bool
+    ensures { result ≡ has_lights form }
+{
+    match form {
+        Format::Line(_) => true,
+        Format::Record => false,
+        Format::Object => false,
+    }
 }
 
 /// Whether a code is asked for, or that there is none.

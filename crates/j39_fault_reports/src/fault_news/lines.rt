@@ -1,5 +1,5 @@
 //! The rows of a message of faults.
-ghost use Rattle.std.specs.Prelude.{◌≡◌, IfOk, Some, count_by, map, option_map, unwrap_or};
+ghost use Rattle.std.specs.Prelude.{◌≡◌, ◌<◌, ◌≤◌, ◌+◌, ◌^◌, IfOk, Some, count_by, map, option_map, unwrap_or};
 ghost use Rattle.std.specs.List.{flat_map};
 ghost use Rattle.j39_io.specs.Puts.{Puts};
 ghost use Rattle.j39_io.specs.Turn.{turn};
@@ -8,15 +8,17 @@ ghost use Rattle.j39_faults.specs.Conversions.{codes_by};
 ghost use Rattle.j39_faults.specs.declared.text.State.TheVariants.{Is};
 ghost use Rattle.j39_frame.specs.Stamp.{stamp_micros};
 ghost use Rattle.j39_listen.specs.HeardModel.{hearing_of};
-ghost use Rattle.j39_fault_reports.specs.Faults.{faults_by, lines_in, name_in, names_asked};
+ghost use Rattle.j39_fault_reports.specs.Faults.{codes_or_none, fault_of, faults_by, lines_in, name_in, names_asked};
 ghost use Rattle.j39_fault_reports.specs.FaultRows.{clearing_columns, faults_text, message_columns, message_head, said_columns};
-ghost use Rattle.j39_fault_reports.specs.FaultsSoFar.{line_of, manner_of, spns_now};
+ghost use Rattle.j39_fault_reports.specs.FaultsSoFar.{are_lit, lights_line, line_of, manner_of, spns_now};
 ghost use Rattle.j39_listen.specs.Counting.{one_if};
 ghost use Rattle.j39_rows.specs.Models.{column_of, head_of};
 ghost use Rattle.j39_rows.specs.Row.{row_text};
 
-use crate::fault_news::columns::{coded, message_columns, state_name, uncoded};
-use crate::fault_news::form::{Saying, Writing, names_asked};
+use crate::fault_news::columns::{
+    coded, lights_columns, message_columns, moment_head, state_name, uncoded,
+};
+use crate::fault_news::form::{Saying, Writing, lights_asked, names_asked};
 use crate::fault_news::names::name_in;
 use j39_faults::{
     Code, Kind, Lamps, State, Version, clear_word, code_by, codes_of, lamps_told, parameter_words,
@@ -25,10 +27,10 @@ use j39_faults::{
 use j39_groups::Groups;
 use j39_io::{DeviceFault, Sink};
 use j39_listen::{Format, Heard};
-use j39_rows::{Cell, Column, Head, Plain, put_row};
+use j39_rows::{Cell, Column, Head, put_row};
 
-/// Writes a line for each code of a message, by this version of the conversion, or one that says that it has none, and
-/// answers how many.
+/// Writes a line for the lamps of a message, if they aren't all off, and one for each code, by this version of the conversion, or one
+/// that says that it has none, and answers how many.
 pub(crate) fn put_message<W: Sink>(
     heard: &Heard<'_>,
     writing: Writing<'_, '_>,
@@ -45,21 +47,62 @@ pub(crate) fn put_message<W: Sink>(
 {
     let columns = message_columns(heard);
     let head = message_head(heard, &columns);
-    let lines = put_codes(
-        head,
-        writing,
-        version,
-        kind,
-        lamps,
-        heard.message.payload,
-        sink,
-    )?;
+    let lit = put_lights(head, writing, b"", lamps, sink)?;
+    let coded = put_coded(heard, head, writing, version, kind, lamps, sink)?;
+    Ok(lit + coded)
+}
+
+/// Writes a line for each code of a message, or one that says that it has none, and answers how many.
+fn put_coded<W: Sink>(
+    heard: &Heard<'_>,
+    head: Head<'_>,
+    writing: Writing<'_, '_>,
+    version: Option<Version>,
+    kind: Kind,
+    lamps: Lamps,
+    sink: &mut W,
+) -> Result<u64, DeviceFault>
+    requires { head_of head ≡ message_head (stamp_micros heard.now.message.stamp) heard.now.message.source
+        heard.now.destination (option_map name_raw heard.now.name) }
+    ensures lines { IfOk result (λ n. n ≡ lines_in (manner_of writing.entry)
+        (map (fault_of (hearing_of heard.now) (Is kind) lamps) (codes_or_none (codes_by version heard.now.message.payload.now)))) }
+    ensures few { IfOk result (λ n. n + 1 < 2 ^ 64) }
+    ensures puts { Puts (faults_text writing.entry.form (manner_of writing.entry)
+        (map (fault_of (hearing_of heard.now) (Is kind) lamps) (codes_or_none (codes_by version heard.now.message.payload.now))))
+        result (turn W.written W.has_failed sink.old sink.new) }
+{
+    let payload = heard.message.payload;
+    let lines = put_codes(head, writing, version, kind, lamps, payload, sink)?;
     if lines > 0 {
         return Ok(lines);
     }
     let state = State::Is(kind);
     let code = None;
     put_fault(head, writing, Saying { state, lamps, code }, sink)
+}
+
+/// Writes a line for the lamps, if they have one and weren't told in these words before, and answers how many that is.
+pub(crate) fn put_lights<W: Sink>(
+    head: Head<'_>,
+    writing: Writing<'_, '_>,
+    before: &[u8],
+    lamps: Lamps,
+    sink: &mut W,
+) -> Result<u64, DeviceFault>
+    ensures lines { IfOk result (λ n. n ≡ one_if (are_lit (manner_of writing.entry) before.now lamps)) }
+    ensures few { IfOk result (λ n. n ≤ 1) }
+    ensures puts { Puts (lights_line writing.entry.form (head_of head.entry) (manner_of writing.entry) before.now lamps)
+        result (turn W.written W.has_failed sink.old sink.new) }
+{
+    let told = lamps_told(lamps);
+    if told.as_slice() == before || !lights_asked(writing) {
+        return Ok(0);
+    }
+    let columns = lights_columns(Cell::text(told.as_slice()));
+    match put_row(writing.form, head, &columns, sink) {
+        Ok(()) => Ok(1),
+        Err(DeviceFault) => Err(DeviceFault),
+    }
 }
 
 /// Writes a line for each code that is asked for, and answers how many.
@@ -73,6 +116,7 @@ fn put_codes<W: Sink>(
     sink: &mut W,
 ) -> Result<u64, DeviceFault>
     ensures lines { IfOk result (λ n. n ≡ count_by (λ code. names_asked (spns_now writing.entry.spns) (Some code)) (codes_by version payload.now)) }
+    ensures few { IfOk result (λ n. n + 1 < 2 ^ 64) }
     ensures puts { Puts (flat_map (λ code. line_of writing.entry.form (head_of head.entry) (manner_of writing.entry) (Is kind) lamps (Some code))
         (codes_by version payload.now)) result (turn W.written W.has_failed sink.old sink.new) }
 {
@@ -177,9 +221,5 @@ pub(crate) fn message_head<'a>(heard: &Heard<'_>, columns: &'a [Column<'a>; 4]) 
     ensures { head_of result ≡ message_head (stamp_micros heard.now.message.stamp) heard.now.message.source
         heard.now.destination (option_map name_raw heard.now.name) }
 {
-    Head {
-        name: b"stamp",
-        first: Plain::Seconds(heard.message.stamp),
-        columns,
-    }
+    moment_head(heard.message.stamp, columns)
 }

@@ -7,6 +7,7 @@ ghost use Rattle.j39_fault_reports.specs.Broken.{ToldFaults, counts_in};
 ghost use Rattle.j39_fault_reports.specs.FaultAsking.{AsksForFaults};
 ghost use Rattle.j39_fault_reports.specs.FaultRun.{MakesFaults};
 ghost use Rattle.j39_fault_reports.specs.FaultRows.{fault_columns};
+ghost use Rattle.j39_fault_reports.specs.Faults.{manner_in};
 ghost use Rattle.j39_fault_reports.specs.FaultsSoFar.{spns_now};
 ghost use Rattle.j39_listen.specs.Chooses.{which_of};
 ghost use Rattle.j39_fault_reports.specs.News.{chosen_of};
@@ -40,7 +41,8 @@ pub struct FaultCounts {
 
 /// Writes the fault codes in a log of at most `limit` bytes: a line, a record of comma-separated values (RFC 4180),
 /// or an object (RFC 8259), for each code that is told of a message of faults, with the name that a table of parameters has for its parameter; one
-/// too for a message whose codes are told, and that has none. The names of the columns of records are written before the
+/// too for a message whose codes are told, and that has none. Before the lines of a message stands one of the lamps, if they aren't all
+/// off, or where changes are told, if they changed. The names of the columns of records are written before the
 /// log is read. Without a bus it is that of the first frame in the log.
 pub fn faults<R: Source, W: Sink>(
     alloc: Global,
@@ -55,7 +57,7 @@ pub fn faults<R: Source, W: Sink>(
     // What the run promises is `Ran`: what is written is the faults that are told in the frames of the log, and nothing
     // else. Memory is wanted only at a frame of the log that announces a message, or at the first message of faults of
     // its group from an address between the moments. And it counts which messages of codes were broken.
-    ensures told { ToldFaults (MakesFaults format (record { rows = groups.now; spns = spns_now choice.entry.spns }) (chosen_of choice.entry)) (AsksForFaults choice.entry.telling (which_of choice.entry.filter)) bus limit result
+    ensures told { ToldFaults (MakesFaults format (manner_in format groups.now (spns_now choice.entry.spns)) (chosen_of choice.entry)) (AsksForFaults choice.entry.telling (which_of choice.entry.filter)) bus limit result
         (turn R.remaining R.has_failed source.old source.new) (turn W.written W.has_failed sink.old sink.new) }
 
     // What was written is passed on at the end, and before each read, the names of the columns before the first.

@@ -1,29 +1,26 @@
--- A line more; after a fault a front of the lines that are left was written.
-use Rattle.j39_fault_reports.proofs.Common.{◌∙◌, ap, map, refl, puts_as, puts_nothing}
-use Rattle.j39_fault_reports.specs.CurrentPlaces.{LastRecord, standing_record}
-use Rattle.j39_fault_reports.specs.CurrentSoFar.{now_shown}
-use Rattle.j39_fault_reports.specs.FaultsNowRun.{now_text}
-use Rattle.j39_fault_reports.proofs.NowLineLemmas.{count_more, line_more, line_stops, none_put}
+-- The line of the lamps, and those of the codes.
+use Rattle.j39_fault_reports.proofs.Common.{puts_as, puts_done, puts_failed, puts_first, puts_then}
 use Rattle.j39_fault_reports.specs.FaultsSoFar.{manner_of}
+use Rattle.std.specs.Option.{option_map}
+use Rattle.j39_frame.specs.Stamp.{stamp_micros}
+use Rattle.j39_fault_reports.proofs.NowLineLemmas.{lit_count, lit_text}
 use Rattle.j39_fault_reports.proofs.current_faults.lines.put_last.Goals as goal
 
-pub loop-standing-init : goal.loop-standing-init
-loop-standing-init g c = (
-  refl,
-  puts_as _ _ _ _ (none_put c.args.writing.form (manner_of c.args.writing) c.args.address c.args.last.now c.as_slice-standings.result.now) (puts_nothing _ _),
-)
+pub returns-in_err-lit-clause-puts : goal.returns-in_err-lit-clause-puts
+returns-in_err-lit-clause-puts g c =
+    puts_as _ _ _ _ (lit_text c.args.writing.form (manner_of c.args.writing) (option_map stamp_micros c.args.till) c.args.address _ c.args.last.now c.last.view_is _ _ c.moment_head-head.ensures c.sender_columns-columns.ensures)
+    (puts_first _ _ _ _ _ c.from_residual.ensures.0 c.in_err-lit.ensures.puts)
 
-pub loop-standing-preserved : goal.loop-standing-preserved
-loop-standing-preserved g c = (
-  count_more c.args.writing.form (manner_of c.args.writing) c.args.address c.args.last.now c.as_slice-standings.result.now c.loop-standing.standing-index c.standing-item.result c.loop-standing.lines c.in_ok-lines.field-0
-      c.loop-standing-test.true c.standing-item.is c.loop-standing.invariant.0 c.in_ok-lines.ensures.lines,
-  line_more c.args.writing.form (manner_of c.args.writing) c.args.address c.args.last.now c.as_slice-standings.result.now c.loop-standing.standing-index c.standing-item.result c.in_ok-lines.field-0 _ _ _
-      c.loop-standing-test.true c.standing-item.is c.loop-standing.invariant.1 c.in_ok-lines.ensures.puts,
-)
+pub returns-in_err-coded-clause-puts : goal.returns-in_err-coded-clause-puts
+returns-in_err-coded-clause-puts g c =
+    puts_as _ _ _ _ (lit_text c.args.writing.form (manner_of c.args.writing) (option_map stamp_micros c.args.till) c.args.address _ c.args.last.now c.last.view_is _ _ c.moment_head-head.ensures c.sender_columns-columns.ensures)
+    (puts_then _ _ _ _ _ _ _ c.in_ok-lit.ensures.puts (puts_failed _ _ _ _ c.from_residual-in_err-coded.ensures.0 c.in_err-coded.ensures.puts))
 
-pub returns-in_err-lines-clause-puts : goal.returns-in_err-lines-clause-puts
-returns-in_err-lines-clause-puts g c =
-    puts_as _ _ _ _ (ap (λ ss. now_text c.args.writing.form (manner_of c.args.writing) (map (now_shown c.args.address c.args.last.now) ss))
-    (ap (map standing_record) c.as_slice-standings.ensures.value ∙ ap (λ (l : LastRecord). l.standings) c.last.view_is))
-    (line_stops c.args.writing.form (manner_of c.args.writing) c.args.address c.args.last.now c.as_slice-standings.result.now c.loop-standing.standing-index c.standing-item.result _ _ _ _ _
-    c.loop-standing-test.true c.standing-item.is c.from_residual.ensures.0 c.loop-standing.invariant.1 c.in_err-lines.ensures.puts)
+pub returns-clause-puts : goal.returns-clause-puts
+returns-clause-puts g c =
+    puts_as _ _ _ _ (lit_text c.args.writing.form (manner_of c.args.writing) (option_map stamp_micros c.args.till) c.args.address _ c.args.last.now c.last.view_is _ _ c.moment_head-head.ensures c.sender_columns-columns.ensures)
+    (puts_then _ _ _ _ _ _ _ c.in_ok-lit.ensures.puts (puts_done _ _ _ _ c.in_ok-coded.ensures.puts))
+
+pub returns-clause-lines : goal.returns-clause-lines
+returns-clause-lines g c =
+    lit_count c.args.writing.form (manner_of c.args.writing) (option_map stamp_micros c.args.till) c.args.address _ c.args.last.now c.last.view_is _ _ c.moment_head-head.ensures c.sender_columns-columns.ensures _ _ c.in_ok-lit.ensures.lines c.in_ok-coded.ensures.lines

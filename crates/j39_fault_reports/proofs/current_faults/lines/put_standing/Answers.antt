@@ -5,6 +5,8 @@ use Rattle.j39_fault_reports.specs.CurrentSoFar.{now_shown}
 use Rattle.j39_fault_reports.specs.FaultsSoFar.{line_of}
 use Rattle.j39_fault_reports.proofs.NowLineLemmas.{one_text}
 use Rattle.j39_fault_reports.specs.FaultsSoFar.{manner_of}
+use Rattle.std.specs.Option.{option_map}
+use Rattle.j39_frame.specs.Stamp.{stamp_micros}
 use Rattle.j39_fault_reports.proofs.current_faults.lines.put_standing.Goals as goal
 
 pub returns-clause-puts : goal.returns-clause-puts
@@ -14,4 +16,4 @@ returns-clause-puts g c =
     let is = c.now_head-head.ensures ∙ ap head c.columns_of-columns.ensures in
     puts_as _ _ _ _ (ap (λ lamps. line_of c.args.writing.form (head_of c.now_head-head.result) (manner_of c.args.writing) (Is Active) lamps n.code) (ap (λ (l : LastRecord). l.lamps) c.last.view_is)
     ∙ ap (λ h. line_of c.args.writing.form h (manner_of c.args.writing) (Is Active) n.lamps n.code) is
-    ∙ one_text c.args.writing.form (manner_of c.args.writing) n) c.put_fault.ensures.puts
+    ∙ one_text c.args.writing.form (manner_of c.args.writing) (option_map stamp_micros c.args.till) n) c.put_fault.ensures.puts

@@ -18,4 +18,4 @@ returns-clause-puts g c =
 pub returns-clause-lines : goal.returns-clause-lines
 returns-clause-lines g c =
     let m = hearing_of c.args.heard.now in
-    rw c.in-Some.is (if_ok c.put_fault.result _ _ (λ n is. is ∙ count_here (says_asked (manner_of c.args.writing).spns) (fault_of m (Became c.in-Some.change) c.args.lamps (Some c.args.code))) c.put_fault.ensures.lines)
+    rw c.in-Some.is (if_ok c.put_fault.result _ _ (λ n is. is ∙ count_here (says_asked (manner_of c.args.writing)) (fault_of m (Became c.in-Some.change) c.args.lamps (Some c.args.code))) c.put_fault.ensures.lines)

@@ -1,35 +1,44 @@
--- What became of the codes of the message, and then of those before it.
-use Rattle.j39_fault_reports.proofs.Common.{sym, codes_by, puts_as, puts_done, puts_failed, puts_first, puts_then, hearing_of}
-use Rattle.j39_fault_reports.specs.FaultRows.{faults_text}
-use Rattle.j39_fault_reports.specs.FaultsSoFar.{changed}
-use Rattle.j39_fault_reports.specs.declared.fault_news.changes.Side.TheVariants.{Earlier, Later}
-use Rattle.j39_fault_reports.proofs.FaultAccountLemmas.{faults_text-append}
+-- The line of the lamps, and those of what became of the codes.
+use Rattle.j39_fault_reports.proofs.Common.{◌∙◌, arith, refl, lamps_of, puts_as, puts_done, puts_failed, puts_first, puts_then, hearing_of}
+use Rattle.j39_fault_reports.specs.FaultChanges.{code_changes, words_of}
+use Rattle.j39_fault_reports.specs.Faults.{said_at}
 use Rattle.j39_fault_reports.specs.FaultsSoFar.{manner_of}
+use Rattle.j39_fault_reports.proofs.LightLemmas.{both_count, both_text}
 use Rattle.j39_fault_reports.proofs.fault_news.changes.put_changes.Goals as goal
 
-pub returns-in_err-later-clause-puts : goal.returns-in_err-later-clause-puts
-returns-in_err-later-clause-puts g c =
-    let now = codes_by c.args.version c.args.heard.now.message.payload.now in
-    let before = codes_by c.args.version c.args.before.now in
-    let later = changed Later (hearing_of c.args.heard.now) c.args.lamps before now in
-    let earlier = changed Earlier (hearing_of c.args.heard.now) c.args.lamps now before in
-    puts_as _ _ _ _ (sym (faults_text-append c.args.writing.form (manner_of c.args.writing) later earlier))
-    (puts_first _ (faults_text c.args.writing.form (manner_of c.args.writing) earlier) _ _ _ c.from_residual.ensures.0 c.in_err-later.ensures.puts)
+pub returns-in_err-lit-clause-puts : goal.returns-in_err-lit-clause-puts
+returns-in_err-lit-clause-puts g c =
+    let m = hearing_of c.args.heard.now in
+    let coded = code_changes c.args.version c.args.before.now m c.args.lamps in
+    let words = c.as_slice.ensures.value ∙ c.words_in-words.ensures in
+    puts_as _ _ _ _ (both_text c.args.writing.form (manner_of c.args.writing) (words_of (lamps_of c.args.before.now)) c.args.lamps (said_at m) _ refl c.message_head-head.ensures coded)
+    (puts_first _ _ _ _ _ c.from_residual.ensures.0 (rw words at c.in_err-lit.ensures.puts))
 
-pub returns-in_err-earlier-clause-puts : goal.returns-in_err-earlier-clause-puts
-returns-in_err-earlier-clause-puts g c =
-    let now = codes_by c.args.version c.args.heard.now.message.payload.now in
-    let before = codes_by c.args.version c.args.before.now in
-    let later = changed Later (hearing_of c.args.heard.now) c.args.lamps before now in
-    let earlier = changed Earlier (hearing_of c.args.heard.now) c.args.lamps now before in
-    puts_as _ _ _ _ (sym (faults_text-append c.args.writing.form (manner_of c.args.writing) later earlier))
-    (puts_then _ _ _ _ _ _ _ c.in_ok-later.ensures.puts (puts_failed _ _ _ _ c.from_residual-in_err-earlier.ensures.0 c.in_err-earlier.ensures.puts))
+pub returns-in_err-coded-clause-puts : goal.returns-in_err-coded-clause-puts
+returns-in_err-coded-clause-puts g c =
+    let m = hearing_of c.args.heard.now in
+    let coded = code_changes c.args.version c.args.before.now m c.args.lamps in
+    let words = c.as_slice.ensures.value ∙ c.words_in-words.ensures in
+    puts_as _ _ _ _ (both_text c.args.writing.form (manner_of c.args.writing) (words_of (lamps_of c.args.before.now)) c.args.lamps (said_at m) _ refl c.message_head-head.ensures coded)
+    (puts_then _ _ _ _ _ _ _ (rw words at c.in_ok-lit.ensures.puts) (puts_failed _ _ _ _ c.from_residual-in_err-coded.ensures.0 c.in_err-coded.ensures.puts))
 
 pub returns-clause-puts : goal.returns-clause-puts
 returns-clause-puts g c =
-    let now = codes_by c.args.version c.args.heard.now.message.payload.now in
-    let before = codes_by c.args.version c.args.before.now in
-    let later = changed Later (hearing_of c.args.heard.now) c.args.lamps before now in
-    let earlier = changed Earlier (hearing_of c.args.heard.now) c.args.lamps now before in
-    puts_as _ _ _ _ (sym (faults_text-append c.args.writing.form (manner_of c.args.writing) later earlier))
-    (puts_then _ _ _ _ _ _ _ c.in_ok-later.ensures.puts (puts_done _ _ _ _ c.in_ok-earlier.ensures.puts))
+    let m = hearing_of c.args.heard.now in
+    let coded = code_changes c.args.version c.args.before.now m c.args.lamps in
+    let words = c.as_slice.ensures.value ∙ c.words_in-words.ensures in
+    puts_as _ _ _ _ (both_text c.args.writing.form (manner_of c.args.writing) (words_of (lamps_of c.args.before.now)) c.args.lamps (said_at m) _ refl c.message_head-head.ensures coded)
+    (puts_then _ _ _ _ _ _ _ (rw words at c.in_ok-lit.ensures.puts) (puts_done _ _ _ _ c.in_ok-coded.ensures.puts))
+
+pub returns-clause-lines : goal.returns-clause-lines
+returns-clause-lines g c =
+    let m = hearing_of c.args.heard.now in
+    let coded = code_changes c.args.version c.args.before.now m c.args.lamps in
+    let words = c.as_slice.ensures.value ∙ c.words_in-words.ensures in
+    both_count c.args.writing.form (manner_of c.args.writing) (words_of (lamps_of c.args.before.now)) c.args.lamps (said_at m) _ refl c.message_head-head.ensures coded _ _ (rw words at c.in_ok-lit.ensures.lines) c.in_ok-coded.ensures.lines
+
+pub overflow_add-result : goal.overflow_add-result
+overflow_add-result g c =
+    let lit = c.in_ok-lit.ensures.few in
+    let few = c.in_ok-coded.ensures.few in
+    omega (arith, lit, few)

@@ -26,3 +26,9 @@ overflow_add-lines g c =
     c.loop-code.invariant c.in-Some.ensures.steps (rw c.code_by.ensures at c.in_ok-lines.ensures.lines) (rw c.code_by.ensures at c.in_ok-lines.ensures.puts)) in
     let fits = c.type_inv.payload in
     omega arith
+
+pub returns-clause-few : goal.returns-clause-few
+returns-clause-few g c =
+    let few = few_put c.args.writing.form (head_of c.args.head) (manner_of c.args.writing) c.args.version (Is c.args.kind) c.args.lamps c.args.payload.now _ _ _ c.loop-code.invariant in
+    let fits = c.type_inv.payload in
+    omega (arith, few, fits)

@@ -14,8 +14,9 @@ returns-in-Ok-clause-met g c =
       places = c.take_frame.new.places;
       messages = c.saturating_add-self.result;
       announced = c.take_frame.new.announced;
+      last = c.last_with-self.result;
     } in
-    λ (form, subject). now_meets form subject c.args.self.now after refl refl c.args.frame.now c.in-Ok.messages _ c.note.ensures c.in-Ok.ensures.taken c.saturating_add-self.ensures
+    λ (form, subject). now_meets form subject c.args.self.now after refl refl c.args.frame.now c.in-Ok.messages _ c.note.ensures c.in-Ok.ensures.taken c.last_with-self.ensures c.saturating_add-self.ensures
 
 pub returns-in-Err-clause-asked : goal.returns-in-Err-clause-asked
 returns-in-Err-clause-asked g c = λ fails (form, subject) F output has.
