@@ -135,7 +135,7 @@ is_command_found (command.id hex) found are = cc (is_text_found found (codes "he
 is_command_found (command.name hex) found are = cc (is_text_found found (codes "hex") hex are.0)
 is_command_found (command.groups table) found are = cc
 is_command_found (command.survey bus table csv json file) found are = cc
-is_command_found (command.watch bus table spn rows width file) found are = cc
+is_command_found (command.watch bus table asked rows width file) found are = cc
 is_command_found (command.cut source pgn moment bus hex) found are =
     cc (
       is_text_found found (codes "source") source are.0,
