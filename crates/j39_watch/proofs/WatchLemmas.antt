@@ -64,7 +64,7 @@ module _ (groups : List RowRecord) (which : FilterRecord) (size : Size) (w : Scr
       let first = first_stamp F in
       let moment : moment_of w ≡ last_stamp F = ap (λ o. unwrap_or o 0) has.last_is in
       let faults : flat_map (fault_lines groups holder (last_stamp F)) (taken_below which first w.places 256)
-          ≡ map (fault_shown_line groups (last_stamp F)) (faults_shown holder (faults_asked which first has.faults)) =
+      ≡ map (fault_shown_line groups (last_stamp F)) (faults_shown holder (faults_asked which first has.faults)) =
       ap (λ (ns : List Now). flat_map (fault_lines groups holder (last_stamp F)) (now_taken which first ns))
       (shown_all [] (in_time which first (active_among has.faults)) w.places has.are_kept 256 (omega arith))
       ∙ faults_are groups holder (last_stamp F) (faults_asked which first has.faults) in

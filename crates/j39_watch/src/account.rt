@@ -52,7 +52,13 @@ pub fn watch<R: Source, W: Sink>(
     // What was written is passed on at the end, and before each read.
     ensures flushed { PassesOn result (W.is_flushed sink.old) (W.is_flushed sink.new) }
 {
-    run_over(Screens::new(alloc, groups, filter, size), source, sink, bus, limit)
+    run_over(
+        Screens::new(alloc, groups, filter, size),
+        source,
+        sink,
+        bus,
+        limit,
+    )
 }
 
 /// What was heard so far, and what its screens show.
