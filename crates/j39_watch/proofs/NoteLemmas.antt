@@ -1,5 +1,5 @@
 -- What is noted at a frame.
-use Rattle.j39_watch.proofs.Common.{◌≡◌, ◌||◌, ◌∙◌, ◌++◌, ◌∷◌, [], ℕ, Bool, true, false, not, List, Option, None, Some, Result, Ok, Err, OnOk, ap, append-nil, length, map, refl, subst, sym, OnErr, if◌then◌else◌, flat_map, or_comm, both_ways, or_parts, map-append, filter_map-append, FrameRecord, pgn_of, is_network_group, is_reported_in, RowRecord, SightingRecord, absent, sightings_in, told, told_by, told_in, Takes, told_are, HeardAt, HeardAtWith, Hearing, LeavesNetwork, or_none, Hears, Entry, entries_of, entry_of, Listener, hears_single, outside_claims, silent_outside, reported_leaves, pairs_of, FilterRecord, first_stamp, in_time, messages_taken, takes_message}
+use Rattle.j39_watch.proofs.Common.{◌≡◌, ◌||◌, ◌∙◌, ◌++◌, ◌∷◌, [], ℕ, Bool, true, false, not, List, Option, None, Some, Result, Ok, Err, OnOk, ap, append-nil, length, map, refl, subst, sym, OnErr, if◌then◌else◌, or_comm, both_ways, or_parts, map-append, filter_map-append, FrameRecord, pgn_of, is_network_group, is_reported_in, RowRecord, SightingRecord, absent, sightings_in, told, told_by, told_in, Takes, told_are, HeardAt, HeardAtWith, Hearing, LeavesNetwork, or_none, Hears, Entry, entries_of, entry_of, Listener, hears_single, outside_claims, silent_outside, reported_leaves, pairs_of, FilterRecord, first_stamp, in_time, takes_message}
 use Rattle.j39_groups.specs.Visits.{Stops}
 use Rattle.j39_fault_reports.proofs.FaultAccountLemmas.{faults_leave}
 use Rattle.j39_fault_reports.specs.CurrentPlaces.{LastActives}

@@ -1,5 +1,5 @@
 -- A frame of a group that is heard, or of another.
-use Rattle.j39_watch.proofs.Common.{◌≡◌, ◌||◌, ◌∙◌, ap, false, sym, FrameRecord, pgn_of, is_network_group, is_reported_in}
+use Rattle.j39_watch.proofs.Common.{◌≡◌, ◌∙◌, ap, false, sym, FrameRecord, pgn_of, is_reported_in}
 use Rattle.std.proofs.lemmas.Bool.{or_from, or_parts}
 use Rattle.j39_watch.proofs.NoteLemmas.{notes_other}
 use Rattle.j39_fault_reports.specs.News.{is_fault_group}

@@ -1,5 +1,5 @@
 -- A message is heard at the frame, or none; it counts as one of values, of faults, or of both.
-use Rattle.j39_watch.proofs.Common.{◌≡◌, ◌||◌, ◌∙◌, ◌++◌, ◌∷◌, [], List, None, Some, first_stamp, in_time, inl, inr, length, refl, subst, sym, pgn_of, on_err_from, HeardAt, HeardAtWith, hearing_of, on_ok}
+use Rattle.j39_watch.proofs.Common.{◌||◌, ◌∙◌, ◌++◌, ◌∷◌, [], None, Some, first_stamp, in_time, inl, inr, length, refl, subst, sym, pgn_of, on_err_from, HeardAt, HeardAtWith, hearing_of, on_ok}
 use Rattle.j39_fault_reports.proofs.CurrentLemmas.{first_here}
 use Rattle.j39_fault_reports.proofs.HeardLemmas.{both_ok}
 use Rattle.j39_watch.proofs.NoteLemmas.{counted, counted_none, neither_network, notes_heard, notes_silent, of_faults, of_values}
