@@ -19,7 +19,7 @@ _j1939_options() {
     cut) echo --source --pgn --at --bus --help -h ;;
     groups) echo --table --help -h ;;
     survey) echo --bus --table --csv --json --utc --help -h ;;
-    watch) echo --bus --table --spn --rows --width --help -h ;;
+    watch) echo --bus --table --spn --from --to --pgn --since --until --rows --width --help -h ;;
     id | name) echo --help -h ;;
   esac
 }

@@ -77,7 +77,7 @@ is_read program (survey bus table csv json utc file) =
     parsed_choices program survey_app (survey bus table csv json utc file) (before_each (form_of (survey bus table csv json utc file)).arguments) file_rule file (takes_file refl)
     (record { choices = tt; known = refl; apart = refl; defaults = refl; none_by_default = refl; first = refl; valid = λ rows. refl })
     (record { step = refl; passes = refl; found = refl; checks = refl }) refl refl
-is_read program (watch bus table spn rows width file) =
-    parsed_choices program watch_app (watch bus table spn rows width file) (before_each (form_of (watch bus table spn rows width file)).arguments) file_rule file (takes_file refl)
+is_read program (watch bus table asked rows width file) =
+    parsed_choices program watch_app (watch bus table asked rows width file) (before_each (form_of (watch bus table asked rows width file)).arguments) file_rule file (takes_file refl)
     (record { choices = tt; known = refl; apart = refl; defaults = refl; none_by_default = refl; first = refl; valid = λ rows. refl })
     (record { step = refl; passes = refl; found = refl; checks = refl }) refl refl

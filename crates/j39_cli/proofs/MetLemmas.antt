@@ -136,7 +136,10 @@ is_command_found (command.id hex) found are = cc (is_text_found found (codes "he
 is_command_found (command.name hex) found are = cc (is_text_found found (codes "hex") hex are.0)
 is_command_found (command.groups table) found are = cc
 is_command_found (command.survey bus table csv json utc file) found are = cc
-is_command_found (command.watch bus table spn rows width file) found are = cc
+is_command_found (command.watch bus table asked rows width file) found are =
+    let others = option (codes "rows") rows ∷ option (codes "width") width ∷ values (codes "file") file ∷ [] in
+    let its = asked_are_found asked others found are.1.1 in
+    λ i. command.watch (sym are.0 i) (sym are.1.0 i) (its.0 i) (sym its.1.0 i) (sym its.1.1.0 i) (sym its.1.1.1.0 i)
 is_command_found (command.cut source pgn moment bus hex) found are =
     cc (
       is_text_found found (codes "source") source are.0,

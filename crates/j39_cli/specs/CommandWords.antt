@@ -4,6 +4,7 @@ use Rattle.std.specs.Str.{bytes_eq}
 use Rattle.clap.specs.Words.{Row, Text, first_value, rows_of}
 use Rattle.clap.specs.declared.parser.matches.Found.{Found}
 use Rattle.j39_cli.specs.Answer.{Answer, AreChecked, OrMemory}
+use Rattle.j39_cli.specs.Asked.{AskedTexts, asked_found}
 use Rattle.j39_cli.specs.Form.{Form, HaveTexts, HaveValues, WantsMemory, text_found, texts_found, words_in}
 use Rattle.j39_cli.specs.AnswerCommand.{answer_form}
 use Rattle.j39_cli.specs.CutCommand.{cut_form}
@@ -35,7 +36,7 @@ pub data CommandWords : Type 0 where
   cut : Text → Text → Text → Text → Text → CommandWords
   groups : Option Text → CommandWords
   survey : Option Text → Option Text → Bool → Bool → Bool → List Text → CommandWords
-  watch : Option Text → Option Text → Option Text → Option Text → Option Text → List Text → CommandWords
+  watch : Option Text → Option Text → AskedTexts → Option Text → Option Text → List Text → CommandWords
 
 abbrev pub form_of : CommandWords → Form
 form_of (report texts) = report_form texts
@@ -49,7 +50,7 @@ form_of (name hex) = name_form hex
 form_of (cut source pgn at bus hex) = cut_form source pgn at bus hex
 form_of (groups table) = groups_form table
 form_of (survey bus table csv json utc file) = survey_form bus table csv json utc file
-form_of (watch bus table spn rows width file) = watch_form bus table spn rows width file
+form_of (watch bus table asked rows width file) = watch_form bus table asked rows width file
 
 -- the words after the program's name
 abbrev pub words_of : CommandWords → List Text
@@ -87,7 +88,7 @@ command_found called found =
     survey bus table (is_given (first_value found (codes "csv"))) (is_given (first_value found (codes "json")))
     (is_given (first_value found (codes "utc"))) file
     else if bytes_eq called (codes "watch") then
-    watch bus table (first_value found (codes "spn")) (first_value found (codes "rows")) (first_value found (codes "width")) file
+    watch bus table (asked_found found) (first_value found (codes "rows")) (first_value found (codes "width")) file
     else cut (text_found found (codes "source")) (text_found found (codes "pgn")) (text_found found (codes "at"))
     (text_found found (codes "bus")) (text_found found (codes "hex"))
 

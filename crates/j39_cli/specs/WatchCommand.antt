@@ -1,5 +1,6 @@
--- The command `watch [--bus B] [--table T] [--spn SPN,..] [--rows N] [--width N] [FILE]..`.
-use Rattle.std.specs.Prelude.{◌≡◌, ◌≤◌, ◌-◌, ◌∷◌, [], ℕ, false, true, List, None, Option, codes, option_map, unwrap_or}
+-- The command `watch [--bus B] [--table T] [--spn SPN,..] [--from A,..] [--to A,..] [--pgn PGN,..] [--since S] [--until S] [--rows N]
+-- [--width N] [FILE]..`.
+use Rattle.std.specs.Prelude.{◌≡◌, ◌≤◌, ◌-◌, ◌∷◌, ◌++◌, [], ℕ, false, true, List, Option, codes, option_map, unwrap_or}
 use Rattle.std.specs.Option.{ForSome}
 use Rattle.std.specs.Str.Parse.{digits_value}
 use Rattle.clap.specs.Words.{App, Text, new_app, with_rule}
@@ -7,20 +8,19 @@ use Rattle.j39_log.specs.Bus.{IsBusName}
 use Rattle.j39_watch.specs.NotesSoFar.{size_of}
 use Rattle.j39_watch.specs.Watch.{AsksForWatch, MakesWatch, Size}
 use Rattle.j39_cli.specs.Answer.{bus_check, value_check}
+use Rattle.j39_cli.specs.Asked.{AskedTexts, IsAsked, asked_arguments, asked_checks, filter_in, with_asked}
 use Rattle.j39_cli.specs.Form.{Form, Meaning, option, values}
 use Rattle.j39_cli.specs.LogCommand.{IsRun, with_log}
 use Rattle.j39_cli.specs.Numbers.{IsNumberIn}
 use Rattle.j39_cli.specs.RowsRun.{IsRunBy, Running}
 use Rattle.j39_cli.specs.Rules.{option_rule, with_table}
-use Rattle.j39_cli.specs.Spns.{IsSpnList, spns_in}
-use Rattle.j39_cli.specs.declared.asked.Asked.{Asked}
 use Rattle.j39_cli.specs.declared.task.Argument.TheVariants as argument
 use Rattle.j39_cli.specs.declared.task.Task.{Task}
 use Rattle.j39_cli.specs.declared.task.Task.TheVariants.{Watch}
 use Rattle.j39_cli.specs.declared.watch.WatchOptions.{WatchOptions}
 
 abbrev pub watch_app : App
-watch_app = with_log (with_rule (with_rule (with_rule (with_table (new_app (codes "watch"))) (option_rule (codes "spn") false))
+watch_app = with_log (with_rule (with_rule (with_asked (with_table (new_app (codes "watch"))))
     (option_rule (codes "rows") false)) (option_rule (codes "width") false))
 
 -- ---- its values
@@ -45,29 +45,25 @@ IsScreenSize size = (1 ≤ size.rows) × (size.rows ≤ 999) × (20 ≤ size.wid
 
 -- ---- the command
 
--- these parameters, and nothing else
-abbrev pub asks_for_spns : Option (List ℕ) → Asked
-asks_for_spns spns = record { spns = spns; from = None; to = None; pgns = None; since = None; until = None }
-
-abbrev pub IsWatchTask : Option (List ℕ) → Option (List ℕ) → Option (List ℕ) → Option (List ℕ) → Option (List ℕ) → List (List ℕ) → Task → Type 0
-IsWatchTask bus table spn rows width file (Watch o) =
-    (o.input.bus ≡ bus) × (o.table ≡ table) × (o.asked ≡ asks_for_spns (option_map spns_in spn))
+abbrev pub IsWatchTask : Option Text → Option Text → AskedTexts → Option Text → Option Text → List Text → Task → Type 0
+IsWatchTask bus table asked rows width file (Watch o) =
+    (o.input.bus ≡ bus) × (o.table ≡ table) × IsAsked asked o.asked
     × (size_of o.size ≡ screen_in rows width) × (o.input.file ≡ file)
-IsWatchTask bus table spn rows width file t = ⊥
+IsWatchTask bus table asked rows width file t = ⊥
 
-abbrev pub watch_form : Option Text → Option Text → Option Text → Option Text → Option Text → List Text → Form
-watch_form bus table spn rows width file = record {
+abbrev pub watch_form : Option Text → Option Text → AskedTexts → Option Text → Option Text → List Text → Form
+watch_form bus table asked rows width file = record {
   called = codes "watch";
-  arguments = option (codes "bus") bus ∷ option (codes "table") table ∷ option (codes "spn") spn ∷ option (codes "rows") rows
-      ∷ option (codes "width") width ∷ values (codes "file") file ∷ [];
-  checks = bus_check bus ∷ value_check IsSpnList argument.Spn spn ∷ value_check IsRows argument.Rows rows
-      ∷ value_check IsWidth argument.Width width ∷ [];
-  Is = IsWatchTask bus table spn rows width file;
+  arguments = option (codes "bus") bus ∷ option (codes "table") table ∷ asked_arguments asked
+      ++ option (codes "rows") rows ∷ option (codes "width") width ∷ values (codes "file") file ∷ [];
+  checks = bus_check bus ∷ asked_checks asked ++ value_check IsRows argument.Rows rows ∷ value_check IsWidth argument.Width width ∷ [];
+  Is = IsWatchTask bus table asked rows width file;
 }
 
--- the screens of the values that are asked for, and of all faults
+-- the screens of what is asked for
 abbrev pub IsWatchRun : WatchOptions → Running
-IsWatchRun o = IsRunBy (λ kept. IsRun (AsksForWatch kept) (MakesWatch kept (size_of o.size)) o.input.bus) o.asked.spns
+IsWatchRun o =
+    IsRunBy (λ kept. IsRun (AsksForWatch kept (filter_in o.asked)) (MakesWatch kept (filter_in o.asked) (size_of o.size)) o.input.bus) o.asked.spns
 
 abbrev pub watch_meaning : WatchOptions → Meaning
 watch_meaning o = record {

@@ -7,7 +7,6 @@ ghost use Rattle.j39_listen.specs.Filter.{filter_of, no_filter};
 ghost use Rattle.j39_cli.specs.Answer.{AreChecked, IsRead};
 ghost use Rattle.j39_cli.specs.Asked.{IsAsked, IsMoment, IsStamp, asked_checks, asked_found, filter_in, moment_in, stamp_in, with_asked};
 ghost use Rattle.j39_cli.specs.Rules.{IsMade};
-ghost use Rattle.j39_cli.specs.WatchCommand.{asks_for_spns};
 
 use crate::command::with_option;
 use crate::cut_values::number_below;
@@ -53,20 +52,6 @@ pub struct Asked {
 }
 
 impl Asked {
-    /// These parameters, and nothing else.
-    pub(crate) fn of_spns(spns: Option<Spns>) -> Asked
-        ensures { result ≡ asks_for_spns spns }
-    {
-        Asked {
-            spns,
-            from: None,
-            to: None,
-            pgns: None,
-            since: None,
-            until: None,
-        }
-    }
-
     /// Whether all are, but for parameters.
     pub(crate) fn is_everything(&self) -> bool
         ensures { (result ≡ true) ↔ (filter_in self.now ≡ no_filter) }

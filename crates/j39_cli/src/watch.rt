@@ -7,17 +7,18 @@ ghost use Rattle.j39_listen.specs.Ran.{PassesOn, Ran};
 ghost use Rattle.j39_watch.specs.NotesSoFar.{size_of};
 ghost use Rattle.j39_watch.specs.Watch.{AsksForWatch, MakesWatch};
 ghost use Rattle.j39_cli.specs.Answer.{IsReadAs, value_check};
+ghost use Rattle.j39_cli.specs.Asked.{filter_in};
 ghost use Rattle.j39_cli.specs.CommandWords.{IsAnswered, command_found};
 ghost use Rattle.j39_cli.specs.LogCommand.{log_limit};
 ghost use Rattle.j39_cli.specs.Numbers.{IsNumberIn};
 ghost use Rattle.j39_cli.specs.Rules.{IsMade};
 ghost use Rattle.j39_cli.specs.WatchCommand.{IsRows, IsScreenSize, IsWatchRun, IsWidth, watch_app};
 
+use crate::asked::{asked_value, with_asked};
 use crate::command::{new_command, with_option, with_table};
 use crate::cut_values::number_below;
 use crate::log::{LOG_LIMIT, copy_of, tell_end, tell_fault, with_log};
-use crate::spns::SpnWord;
-use crate::words::{bus_value, list_value, log_input};
+use crate::words::{bus_value, log_input};
 use crate::{Argument, Asked, LogInput, ParseFault, Task, WordText};
 use clap::{ArgMatches, Command};
 use j39_groups::Groups;
@@ -53,7 +54,7 @@ pub struct WatchOptions<'a> {
     pub input: LogInput<'a>,
     /// The file of the table, as of a report.
     pub table: Option<WordText<'a>>,
-    /// The parameters whose values are asked for.
+    /// What is asked for; parameters of values alone.
     pub asked: Asked,
     /// How many lines a screen has, and how long they are.
     pub size: ScreenSize,
@@ -67,7 +68,7 @@ pub(crate) fn command<'a>(alloc: Global) -> Result<Command<'a>, AllocError>
     let command = with_table(alloc, new_command(alloc, "watch", about, ABOUT, HELP));
     let help =
         "The parameters to show alone, beside faults: 1 to 32 SPNs, with commas between them";
-    let command = with_option(alloc, command, "spn", "SPN,..", false, help);
+    let command = with_asked(alloc, command, help);
     let help = "How many rows the terminal has, 2 to 1000; without it, LINES says so, or 24";
     let command = with_option(alloc, command, "rows", "N", false, help);
     let help = "How many columns it has, 20 to 512; without it, COLUMNS says so, or 80";
@@ -83,7 +84,7 @@ pub(crate) fn task<'a>(alloc: Global, given: &ArgMatches<'a>) -> Result<Task<'a>
 {
     let table = given.get_str("table").map(WordText::new);
     let bus = bus_value(given)?;
-    let spns = list_value::<SpnWord>(given, "spn", Argument::Spn)?;
+    let asked = asked_value(given)?;
     let rows = number_value(given, "rows", Argument::Rows, 2, 1000)?;
     let width = number_value(given, "width", Argument::Width, 20, 512)?;
     let size = size_for(rows, width);
@@ -91,7 +92,7 @@ pub(crate) fn task<'a>(alloc: Global, given: &ArgMatches<'a>) -> Result<Task<'a>
         Ok(input) => Ok(Task::Watch(WatchOptions {
             input,
             table,
-            asked: Asked::of_spns(spns),
+            asked,
             size,
         })),
         Err(fault) => Err(fault),
@@ -186,10 +187,13 @@ fn run<R: Source, W: Sink>(
     source: &mut R,
     sink: &mut W,
 ) -> Result<Counts, RunFault>
-    ensures ran { Ran (MakesWatch groups.now (size_of options.now.size)) (AsksForWatch groups.now) options.now.input.bus log_limit result
+    ensures ran { Ran (MakesWatch groups.now (filter_in options.now.asked) (size_of options.now.size))
+        (AsksForWatch groups.now (filter_in options.now.asked)) options.now.input.bus log_limit result
         (turn R.remaining R.has_failed source.old source.new) (turn W.written W.has_failed sink.old sink.new) }
     ensures flushed { PassesOn result (W.is_flushed sink.old) (W.is_flushed sink.new) }
 {
+    let filter = options.asked.filter_given();
     let bus = copy_of(&options.input.bus);
-    j39_watch::watch(alloc, groups, options.size, source, sink, bus, LOG_LIMIT)
+    let size = options.size;
+    j39_watch::watch(alloc, groups, filter, size, source, sink, bus, LOG_LIMIT)
 }

@@ -32,8 +32,9 @@ pub use Rattle.j39_listen.proofs.Reported.{reported_leaves}
 pub use Rattle.j39_listen.proofs.Unique.{heard_below_unique}
 pub use Rattle.j39_listen.specs.AccountCalls.{Begins, Closes, MakesOne, Meets, Stops, StopsAtEnd}
 pub use Rattle.j39_listen.specs.Counting.{capped}
-pub use Rattle.j39_listen.specs.Filter.{first_stamp, no_filter}
-pub use Rattle.j39_listen.specs.Heard.{HeardAt, HeardAtWith, Hearing, LeavesNetwork, or_none}
+pub use Rattle.j39_listen.specs.Chooses.{Chooses}
+pub use Rattle.j39_listen.specs.Filter.{FilterRecord, first_stamp, in_time, messages_taken, takes_message}
+pub use Rattle.j39_listen.specs.Heard.{AreHeard, HeardAt, HeardAtWith, Hearing, LeavesNetwork, or_none}
 pub use Rattle.j39_listen.specs.HeardModel.{hearing_of}
 pub use Rattle.j39_listen.specs.Listening.{Hears, holder_of}
 pub use Rattle.j39_listen.specs.Output.{Output, nothing}

@@ -6,4 +6,5 @@ pub mod LatestLemmas
 pub mod ValueLemmas
 pub mod ScreenLemmas
 pub mod NoteLemmas
+pub mod AskedLemmas
 pub mod WatchLemmas

@@ -1,5 +1,5 @@
 -- What a watch shows (own): on each screen the faults that are there, and the last value of each parameter of each controller
--- that is on the bus.
+-- that is on the bus, of what is asked for.
 use Rattle.std.specs.Prelude.{◌≡◌, ◌==◌, ◌&&◌, ◌⊎◌, ◌++◌, ◌∷◌, ◌-◌, ◌/◌, ◌%◌, [], not, ℕ, zero, suc, Bool, true, false, List, Option, Some, None, if◌then◌else◌, codes, decimal, drop, filter, get_or, is_some, length, map, nat_le, replicate, reverse, take, unwrap_or}
 use Rattle.std.specs.List.{flat_map, prefix_len}
 use Rattle.hex.specs.Hex.{encode_upper}
@@ -14,8 +14,8 @@ use Rattle.j39_groups.specs.Row.{RowRecord}
 use Rattle.j39_groups.specs.ValueText.{value_text}
 use Rattle.j39_listen.specs.Asking.{AsksForBoxes, Wanting}
 use Rattle.j39_listen.specs.Counting.{capped}
-use Rattle.j39_listen.specs.Filter.{no_filter}
-use Rattle.j39_listen.specs.Heard.{AreHeard, AreHeardWith, HeardAt, Hearing}
+use Rattle.j39_listen.specs.Filter.{FilterRecord, first_stamp, in_time, messages_taken}
+use Rattle.j39_listen.specs.Heard.{AreHeard, AreHeardWith, Hearing}
 use Rattle.j39_listen.specs.Output.{Making}
 use Rattle.j39_listen.specs.Report.{Entry, entries_of, name_text}
 use Rattle.j39_log.specs.StampText.{stamp_text}
@@ -23,12 +23,12 @@ use Rattle.j39_fault_reports.specs.Faults.{name_in}
 use Rattle.j39_faults.specs.Text.{code_text}
 use Rattle.j39_faults.specs.declared.code.Code.{Code}
 use Rattle.j39_faults.specs.declared.lamps.Lamps.{Lamps}
-use Rattle.j39_fault_reports.specs.FaultsNow.{Now, faults_now}
+use Rattle.j39_fault_reports.specs.FaultsNow.{Now, faults_now, now_taken}
 use Rattle.j39_fault_reports.specs.Spoken.{active_among}
 use Rattle.j39_fault_reports.specs.FaultsNowRun.{IsFirstActive}
 use Rattle.j39_fault_reports.specs.News.{is_fault_group}
 use Rattle.j39_reports.specs.Summary.{firsts, last_of, values_like}
-use Rattle.j39_reports.specs.SummaryRun.{WantsRow}
+use Rattle.j39_reports.specs.SummaryRun.{AsksForRow}
 
 -- ---- who is there
 
@@ -69,6 +69,10 @@ latest_of now entries first = record {
   came = capped (came (now / second) (values_like first entries));
 }
 
+-- of the messages that are asked for
+abbrev pub entries_asked : List RowRecord → FilterRecord → ℕ → List Hearing → List Entry
+entries_asked groups which first heard = flat_map (entries_of groups) (messages_taken which first heard)
+
 -- of the controllers that are there, in the order of their first values
 abbrev pub latest_in : (ℕ → Option ℕ) → ℕ → List Entry → List Latest
 latest_in holder now entries =
@@ -76,12 +80,16 @@ latest_in holder now entries =
 
 -- ---- faults
 
--- the codes of the controllers that are there, as `faults --now` tells them
+-- what is asked for of them, as `faults --now` tells it
+abbrev pub faults_asked : FilterRecord → ℕ → List Hearing → List Now
+faults_asked which first heard = now_taken which first (faults_now [] (in_time which first (active_among heard)))
+
+-- the codes of the controllers that are there
 abbrev pub is_shown : (ℕ → Option ℕ) → Now → Bool
 is_shown holder n = is_there holder n.address n.name && is_some n.code
 
-abbrev pub faults_shown : (ℕ → Option ℕ) → List Hearing → List Now
-faults_shown holder heard = filter (is_shown holder) (faults_now [] (active_among heard))
+abbrev pub faults_shown : (ℕ → Option ℕ) → List Now → List Now
+faults_shown holder faults = filter (is_shown holder) faults
 
 -- ---- lines
 
@@ -142,7 +150,7 @@ abbrev pub moment_text : ℕ → List ℕ
 moment_text now = codes "last frame at " ++ stamp_text now
 
 -- the moment, the faults, and the values
-abbrev pub screen_lines : List RowRecord → (ℕ → Option ℕ) → ℕ → List Entry → List Hearing → List (List ℕ)
+abbrev pub screen_lines : List RowRecord → (ℕ → Option ℕ) → ℕ → List Entry → List Now → List (List ℕ)
 screen_lines groups holder now entries faults =
     moment_text now ∷ (map (fault_shown_line groups now) (faults_shown holder faults)
     ++ map (value_line groups now) (latest_in holder now entries))
@@ -206,7 +214,7 @@ abbrev pub last_stamp : List FrameRecord → ℕ
 last_stamp F = unwrap_or (newest (reverse F)) 0
 
 -- the screen behind the frames F, and how many messages were heard whose values may stand on it
-pub record IsScreen (groups : List RowRecord) (size : Size) (F : List FrameRecord) (text : List ℕ) (messages lines : ℕ) : Type 0 where
+pub record IsScreen (groups : List RowRecord) (which : FilterRecord) (size : Size) (F : List FrameRecord) (text : List ℕ) (messages lines : ℕ) : Type 0 where
   pub heard : List Hearing
   pub are_heard : AreHeard groups F heard
   pub faults : List Hearing
@@ -215,7 +223,8 @@ pub record IsScreen (groups : List RowRecord) (size : Size) (F : List FrameRecor
   pub are_holders : AreHolders F holder
   pub messages_are : messages ≡ length heard
   pub shown : List (List ℕ)
-  pub shown_are : shown ≡ screen_lines groups holder (last_stamp F) (flat_map (entries_of groups) heard) faults
+  pub shown_are : shown ≡ screen_lines groups holder (last_stamp F) (entries_asked groups which (first_stamp F) heard)
+      (faults_asked which (first_stamp F) faults)
   pub text_is : text ≡ screen_text size shown
   pub lines_are : lines ≡ length (fitted size.rows shown)
 
@@ -235,35 +244,24 @@ abbrev pub begins_half : List FrameRecord → Bool
 begins_half F = is_due_at (reverse F)
 
 -- what is written behind the frames F: a screen, or nothing
-abbrev pub IsDrawn : List RowRecord → Size → Bool → List FrameRecord → List ℕ → Type 0
-IsDrawn groups size false F text = text ≡ []
-IsDrawn groups size true F text = (messages : ℕ) × (lines : ℕ) × IsScreen groups size F text messages lines
+abbrev pub IsDrawn : List RowRecord → FilterRecord → Size → Bool → List FrameRecord → List ℕ → Type 0
+IsDrawn groups which size false F text = text ≡ []
+IsDrawn groups which size true F text = (messages : ℕ) × (lines : ℕ) × IsScreen groups which size F text messages lines
 
 -- at the first n frames of F
-abbrev pub AreDrawn : List RowRecord → Size → List FrameRecord → ℕ → List ℕ → Type 0
-AreDrawn groups size F zero text = text ≡ []
-AreDrawn groups size F (suc n) text =
-    (before : List ℕ) × (now : List ℕ) × AreDrawn groups size F n before
-    × IsDrawn groups size (begins_half (take (suc n) F)) (take (suc n) F) now × (text ≡ before ++ now)
+abbrev pub AreDrawn : List RowRecord → FilterRecord → Size → List FrameRecord → ℕ → List ℕ → Type 0
+AreDrawn groups which size F zero text = text ≡ []
+AreDrawn groups which size F (suc n) text =
+    (before : List ℕ) × (now : List ℕ) × AreDrawn groups which size F n before
+    × IsDrawn groups which size (begins_half (take (suc n) F)) (take (suc n) F) now × (text ≡ before ++ now)
 
 -- a screen at each frame that begins half a second, and one at the end
-abbrev pub MakesWatch : List RowRecord → Size → Making
-MakesWatch groups size bus F output =
-    (before : List ℕ) × (last : List ℕ) × AreDrawn groups size F (length F) before
-    × IsScreen groups size F last output.messages output.lines × (output.text ≡ before ++ last)
+abbrev pub MakesWatch : List RowRecord → FilterRecord → Size → Making
+MakesWatch groups which size bus F output =
+    (before : List ℕ) × (last : List ℕ) × AreDrawn groups which size F (length F) before
+    × IsScreen groups which size F last output.messages output.lines × (output.text ≡ before ++ last)
 
--- behind the frames F a message is heard at this frame, and one of its entries is the first of its origin, or a text
-pub record AsksForValue (groups : List RowRecord) (F : List FrameRecord) (frame : FrameRecord) : Type 0 where
-  pub heard : List Hearing
-  pub are_heard : AreHeard groups F heard
-  pub now_heard : Hearing
-  pub heard_now : HeardAt groups (F ++ frame ∷ []) (length F) (Some now_heard)
-  pub taken : List Entry
-  pub entry : Entry
-  pub rest : List Entry
-  pub entries_are : entries_of groups now_heard ≡ taken ++ (entry ∷ rest)
-  pub wanted : WantsRow (flat_map (entries_of groups) heard ++ taken) entry
-
--- where it may want memory: for a message in packets, for such a value, and for the first DM1 of an address
-abbrev pub AsksForWatch : List RowRecord → Wanting
-AsksForWatch groups F frame = AsksForBoxes F frame ⊎ (AsksForValue groups F frame ⊎ IsFirstActive no_filter F frame)
+-- where it may want memory: for a message in packets, for a value that is asked for and is the first of its origin, or a text, and
+-- for the first DM1 of an address
+abbrev pub AsksForWatch : List RowRecord → FilterRecord → Wanting
+AsksForWatch groups which F frame = AsksForBoxes F frame ⊎ (AsksForRow which groups F frame ⊎ IsFirstActive which F frame)

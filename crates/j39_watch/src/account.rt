@@ -1,14 +1,19 @@
 //! What a log is at each half second, as an account of the frames of a bus: the run that writes it, and its screens.
-ghost use Rattle.std.specs.Prelude.{◌≡◌, [], Err, IfOk, OnErr, if◌then◌else◌, length, option_map, unwrap_or};
+ghost use Rattle.std.specs.Prelude.{◌≡◌, [], List, Err, IfOk, OnErr, if◌then◌else◌, length, option_map, unwrap_or};
 ghost use Rattle.j39_frame.specs.Stamp.{stamp_micros};
+ghost use Rattle.j39_io.specs.Device.{Marks};
 ghost use Rattle.j39_io.specs.Puts.{Puts};
 ghost use Rattle.j39_io.specs.Turn.{turn};
+ghost use Rattle.j39_frame.specs.Frame.{FrameRecord};
+ghost use Rattle.j39_listen.specs.Chooses.{Chooses, which_of};
+ghost use Rattle.j39_listen.specs.Filter.{FilterRecord, first_stamp};
 ghost use Rattle.j39_listen.specs.Output.{nothing};
 ghost use Rattle.j39_listen.specs.Ran.{PassesOn, Ran};
 ghost use Rattle.j39_listen.specs.declared.account.LineFault.TheVariants.{Write};
 ghost use Rattle.j39_watch.specs.NotesSoFar.{HasWatched, lines_of_watch, screen_of_watch, size_of};
 ghost use Rattle.j39_watch.specs.Watch.{AsksForWatch, MakesWatch, fitted};
 
+use crate::asked_places::AskedPlaces;
 use crate::moment::Moment;
 use crate::note::note;
 use crate::screen::put_screen;
@@ -19,17 +24,20 @@ use j39_fault_reports::LastActives;
 use j39_frame::{Frame, Stamp};
 use j39_groups::Groups;
 use j39_io::{DeviceFault, Sink, Source};
-use j39_listen::{Account, Counts, LineFault, Listener, Made, Roles, RunFault, run_over};
+use j39_listen::{
+    Account, Chooser, Counts, Filter, LineFault, Listener, Made, Roles, RunFault, run_over,
+};
 use j39_log::Bus;
 use std::alloc::{AllocError, Global};
 
 /// Writes, for a log of at most `limit` bytes, a screen at the first frame of each half second of its stamps, and one at the
 /// end: the stamp of the last frame, the faults of the controllers that are on the bus, and by a table of parameters their
-/// last values, in the order in which their first came. A screen begins with the cursor's way home (ECMA-48), so that it
+/// last values, in the order in which their first came; of both what a filter takes, if one is given. A screen begins with the cursor's way home (ECMA-48), so that it
 /// stands over the one before. Without a bus it is that of the first frame in the log.
 pub fn watch<R: Source, W: Sink>(
     alloc: Global,
     groups: &Groups<'_>,
+    filter: Option<Filter<'_>>,
     size: ScreenSize,
     source: &mut R,
     sink: &mut W,
@@ -38,21 +46,27 @@ pub fn watch<R: Source, W: Sink>(
 ) -> Result<Counts, RunFault>
     // What the run promises is `Ran`: what is written is these screens, and nothing else. Memory is wanted only at a frame
     // that announces a message, at the first value of a parameter, at a text, and at the first DM1 of an address.
-    ensures ran { Ran (MakesWatch groups.now (size_of size)) (AsksForWatch groups.now) bus limit result
+    ensures ran { Ran (MakesWatch groups.now (which_of filter.entry) (size_of size)) (AsksForWatch groups.now (which_of filter.entry)) bus limit result
         (turn R.remaining R.has_failed source.old source.new) (turn W.written W.has_failed sink.old sink.new) }
 
     // What was written is passed on at the end, and before each read.
     ensures flushed { PassesOn result (W.is_flushed sink.old) (W.is_flushed sink.new) }
 {
-    run_over(Screens::new(alloc, groups, size), source, sink, bus, limit)
+    run_over(
+        Screens::new(alloc, groups, filter, size),
+        source,
+        sink,
+        bus,
+        limit,
+    )
 }
 
 /// What was heard so far, and what its screens show.
 #[derive(Drop)]
 pub(crate) struct Screens<'g, 't> {
-    alloc: Global,
     roles: Roles<'g, 't>,
     size: ScreenSize,
+    chooser: Chooser<'g>,
     listener: Listener,
     places: LastActives,
     values: Values<'t>,
@@ -62,13 +76,18 @@ pub(crate) struct Screens<'g, 't> {
 
 impl<'g, 't> Screens<'g, 't> {
     /// That of no frames.
-    fn new(alloc: Global, groups: &'g Groups<'t>, size: ScreenSize) -> Screens<'g, 't>
-        ensures { HasWatched groups.entry.now (size_of size) result [] nothing }
+    fn new(
+        alloc: Global,
+        groups: &'g Groups<'t>,
+        filter: Option<Filter<'g>>,
+        size: ScreenSize,
+    ) -> Screens<'g, 't>
+        ensures { HasWatched groups.entry.now (which_of filter.entry) (size_of size) result [] nothing }
     {
         Screens {
-            alloc,
             roles: Roles::new(groups),
             size,
+            chooser: Chooser::new(filter),
             listener: Listener::new(alloc),
             places: LastActives::new(),
             values: Values::new(alloc),
@@ -80,8 +99,11 @@ impl<'g, 't> Screens<'g, 't> {
     /// Writes its screen, and answers how many lines that has.
     #[inline(never)]
     fn draw<W: Sink>(&self, sink: &mut W) -> Result<u16, DeviceFault>
-        ensures lines { IfOk result (λ n. n ≡ length (fitted self.now.size.rows (lines_of_watch self.now))) }
-        ensures puts { Puts (screen_of_watch self.now) result (turn W.written W.has_failed sink.old sink.new) }
+        ensures lines { IfOk result (λ n. (which : FilterRecord) (F : List FrameRecord) → Chooses which self.now.chooser F
+            → n ≡ length (fitted self.now.size.rows (lines_of_watch which (first_stamp F) self.now))) }
+        ensures puts { (which : FilterRecord) (F : List FrameRecord) → Chooses which self.now.chooser F
+            → Puts (screen_of_watch which (first_stamp F) self.now) result (turn W.written W.has_failed sink.old sink.new) }
+        ensures mark { Marks result (W.has_failed sink.old) (W.has_failed sink.new) }
     {
         let view = View {
             groups: self.roles.groups,
@@ -89,7 +111,8 @@ impl<'g, 't> Screens<'g, 't> {
             now: moment_of(self.moment.last),
             width: self.size.width(),
         };
-        put_screen(view, self.size.rows(), &self.places, &self.values, sink)
+        let asked = AskedPlaces::new(&self.chooser, &self.places);
+        put_screen(view, self.size.rows(), &asked, &self.values, sink)
     }
 }
 
@@ -104,27 +127,26 @@ fn moment_of(last: Option<Stamp>) -> Stamp
 }
 
 impl<'g, 't> Account for Screens<'g, 't> {
-    ghost use Rattle.std.specs.Prelude.{List};
-    ghost use Rattle.j39_groups.specs.Row.{RowRecord};
-    ghost use Rattle.j39_watch.specs.NotesSoFar.{HasWatched};
-    ghost use Rattle.j39_watch.specs.Watch.{AsksForWatch, MakesWatch, Size};
+    ghost use Rattle.j39_watch.specs.NotesSoFar.{HasWatched, Watching};
+    ghost use Rattle.j39_watch.specs.Watch.{AsksForWatch, MakesWatch};
 
-    ghost Subject = { Size × List RowRecord };
+    ghost Subject = { Watching };
 
-    ghost has_met = { λ subject bus. HasWatched subject.1 subject.0 };
+    ghost has_met = { λ subject bus. HasWatched subject.groups subject.which subject.size };
 
-    ghost makes = { λ subject. MakesWatch subject.1 subject.0 };
+    ghost makes = { λ subject. MakesWatch subject.groups subject.which subject.size };
 
-    ghost asks = { λ subject. AsksForWatch subject.1 };
+    ghost asks = { λ subject. AsksForWatch subject.groups subject.which };
 
     #[inline(always)]
     fn feed<W: Sink>(&mut self, _: &Bus, frame: &Frame, sink: &mut W) -> Result<(), LineFault> {
+        self.chooser.note(frame);
         match note(
-            self.alloc,
             &mut self.listener,
             &mut self.places,
             &mut self.values,
             &mut self.roles,
+            &self.chooser,
             frame,
         ) {
             Ok(messages) => {
@@ -150,7 +172,10 @@ impl<'g, 't> Account for Screens<'g, 't> {
 /// Writes a screen if it is due.
 #[inline(always)]
 fn draw_if<W: Sink>(watch: &Screens<'_, '_>, draws: bool, sink: &mut W) -> Result<(), LineFault>
-    ensures puts { Puts (if draws then screen_of_watch watch.now else []) result (turn W.written W.has_failed sink.old sink.new) }
+    ensures puts { (which : FilterRecord) (F : List FrameRecord) → Chooses which watch.now.chooser F
+        → Puts (if draws then screen_of_watch which (first_stamp F) watch.now else []) result
+        (turn W.written W.has_failed sink.old sink.new) }
+    ensures mark { Marks result (W.has_failed sink.old) (W.has_failed sink.new) }
     ensures write { OnErr result (result ≡ Err Write) }
 {
     if !draws {

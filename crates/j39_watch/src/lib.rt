@@ -2,6 +2,7 @@
 #![tactic(auto)]
 
 mod account;
+mod asked_places;
 mod cut_line;
 mod latest;
 mod lines;

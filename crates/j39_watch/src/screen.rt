@@ -14,13 +14,14 @@ ghost use Rattle.j39_watch.specs.Watch.{fitted, moment_text, rows_text, screen_t
 ghost use Rattle.j39_watch.specs.WatchSoFar.{fault_lines, faults_of_places, limited, value_lines};
 ghost use Rattle.j39_watch.specs.ScreenSoFar.{lines_of_code};
 
+use crate::asked_places::AskedPlaces;
 use crate::cut_line::CutLine;
 use crate::latest::Latest;
 use crate::lines::{fault_line, make_value_line, moment_line, more_line, put_line};
 use crate::values::Values;
 use crate::view::View;
 use j39_address::Name;
-use j39_fault_reports::{LastActive, LastActives, SOURCES, Standing};
+use j39_fault_reports::{LastActive, SOURCES, Standing};
 use j39_frame::Origin;
 use j39_io::{DeviceFault, Sink, put_all};
 
@@ -28,7 +29,7 @@ use j39_io::{DeviceFault, Sink, put_all};
 pub(crate) fn put_screen<W: Sink>(
     view: View<'_, '_>,
     rows: u16,
-    places: &LastActives,
+    places: &AskedPlaces<'_>,
     values: &Values<'_>,
     sink: &mut W,
 ) -> Result<u16, DeviceFault>
@@ -46,7 +47,7 @@ pub(crate) fn put_screen<W: Sink>(
 fn put_fitted<W: Sink>(
     view: View<'_, '_>,
     rows: u16,
-    places: &LastActives,
+    places: &AskedPlaces<'_>,
     values: &Values<'_>,
     sink: &mut W,
 ) -> Result<u16, DeviceFault>
@@ -66,7 +67,7 @@ fn put_fitted<W: Sink>(
 fn put_whole<W: Sink>(
     view: View<'_, '_>,
     rows: u16,
-    places: &LastActives,
+    places: &AskedPlaces<'_>,
     values: &Values<'_>,
     sink: &mut W,
 ) -> Result<u16, DeviceFault>
@@ -84,7 +85,7 @@ fn put_front<W: Sink>(
     view: View<'_, '_>,
     rows: u16,
     lines: u64,
-    places: &LastActives,
+    places: &AskedPlaces<'_>,
     values: &Values<'_>,
     sink: &mut W,
 ) -> Result<u16, DeviceFault>
@@ -104,7 +105,7 @@ fn put_front<W: Sink>(
 }
 
 /// How many lines there are; a count that would pass 2^64 - 1 stays there.
-fn count_lines(view: View<'_, '_>, places: &LastActives, values: &Values<'_>) -> u64
+fn count_lines(view: View<'_, '_>, places: &AskedPlaces<'_>, values: &Values<'_>) -> u64
     ensures { result ≡ capped (length (lines_of_code view.entry.groups.now view.entry.listener.now (stamp_micros view.entry.now) places.now values.now)) }
 {
     let faults = count_faults(view, places);
@@ -113,7 +114,7 @@ fn count_lines(view: View<'_, '_>, places: &LastActives, values: &Values<'_>) ->
 }
 
 /// How many lines of faults there are.
-fn count_faults(view: View<'_, '_>, places: &LastActives) -> u64
+fn count_faults(view: View<'_, '_>, places: &AskedPlaces<'_>) -> u64
     ensures { result ≡ capped (length (faults_of_places view.entry.groups.now (holder_of view.entry.listener.now) (stamp_micros view.entry.now) places.now 256)) }
 {
     let mut count: u64 = 0;
@@ -124,7 +125,7 @@ fn count_faults(view: View<'_, '_>, places: &LastActives) -> u64
 }
 
 /// How many of them are of this address.
-fn count_at(view: View<'_, '_>, places: &LastActives, address: usize) -> u64
+fn count_at(view: View<'_, '_>, places: &AskedPlaces<'_>, address: usize) -> u64
     requires { address < 256 }
     ensures { result ≡ capped (length (flat_map (fault_lines view.entry.groups.now (holder_of view.entry.listener.now) (stamp_micros view.entry.now)) (nows_shown address (at places.now address)))) }
 {
@@ -188,7 +189,7 @@ fn count_value(view: View<'_, '_>, origin: Origin, latest: &Latest<'_>) -> u64
 fn put_lines<W: Sink>(
     view: View<'_, '_>,
     rows: u16,
-    places: &LastActives,
+    places: &AskedPlaces<'_>,
     values: &Values<'_>,
     sink: &mut W,
 ) -> Result<u16, DeviceFault>
@@ -219,7 +220,7 @@ fn put_moment<W: Sink>(view: View<'_, '_>, left: u16, sink: &mut W) -> Result<u1
 fn put_faults<W: Sink>(
     view: View<'_, '_>,
     room: u16,
-    places: &LastActives,
+    places: &AskedPlaces<'_>,
     sink: &mut W,
 ) -> Result<u16, DeviceFault>
     ensures left { IfOk result (λ n. n ≡ room - length (faults_of_places view.entry.groups.now (holder_of view.entry.listener.now) (stamp_micros view.entry.now) places.now 256)) }

@@ -25,7 +25,7 @@ use std::alloc::{AllocError, Global};
 pub(crate) struct Values<'t> {
     pub rows: ByOrigin<Latest<'t>>,
     guesses: Guesses,
-    alloc: Global,
+    pub alloc: Global,
     stamp: Stamp,
     address: u8,
     destination: Option<u8>,

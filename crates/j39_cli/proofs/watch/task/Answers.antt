@@ -1,8 +1,7 @@
--- The bus is checked, then the parameters, the rows and the width; FILE is kept last.
+-- The bus is checked, then what is asked for, the rows and the width; FILE is kept last.
 use Rattle.j39_cli.proofs.Common.{◌∙◌, ◌-◌, ap, codes, drop, rules, take, unwrap_or, found_of}
 use Rattle.j39_cli.specs.Answer.{OrMemory}
 use Rattle.j39_cli.specs.CommandWords.{command_found, form_of}
-use Rattle.j39_cli.specs.WatchCommand.{asks_for_spns}
 use Rattle.j39_cli.proofs.CheckLemmas.{passed, stopped}
 use Rattle.j39_cli.proofs.watch.task.Goals as goal
 
@@ -17,14 +16,14 @@ returns-in_err-bus c =
       in_range = search rules;
     }
 
-pub returns-in_err-spns : goal.returns-in_err-spns
-returns-in_err-spns c =
+pub returns-in_err-asked : goal.returns-in_err-asked
+returns-in_err-asked c =
     let form = form_of (command_found (codes "watch") (found_of c.args.given.now)) in
     let all = form.checks in
     let next = OrMemory form.Is in
     record {
       answer = passed next (take 1 all) (drop 1 all) _ _ _ c.in_ok-bus.ensures.read (λ _.
-          stopped next (take 1 (drop 1 all)) (drop 2 all) _ _ _ c.in_err-spns.ensures.read c.from_residual-in_err-spns.ensures);
+          stopped next (take 6 (drop 1 all)) (drop 7 all) _ _ _ c.in_err-asked.ensures.read c.from_residual-in_err-asked.ensures);
       memory = search rules;
       in_range = search rules;
     }
@@ -36,8 +35,8 @@ returns-in_err-rows c =
     let next = OrMemory form.Is in
     record {
       answer = passed next (take 1 all) (drop 1 all) _ _ _ c.in_ok-bus.ensures.read (λ _.
-          passed next (take 1 (drop 1 all)) (drop 2 all) _ _ _ c.in_ok-spns.ensures.read (λ _.
-          stopped next (take 1 (drop 2 all)) (drop 3 all) _ _ _ c.in_err-rows.ensures.read.read c.from_residual-in_err-rows.ensures));
+          passed next (take 6 (drop 1 all)) (drop 7 all) _ _ _ c.in_ok-asked.ensures.read (λ _.
+          stopped next (take 1 (drop 7 all)) (drop 8 all) _ _ _ c.in_err-rows.ensures.read.read c.from_residual-in_err-rows.ensures));
       memory = search rules;
       in_range = search rules;
     }
@@ -49,9 +48,9 @@ returns-in_err-width c =
     let next = OrMemory form.Is in
     record {
       answer = passed next (take 1 all) (drop 1 all) _ _ _ c.in_ok-bus.ensures.read (λ _.
-          passed next (take 1 (drop 1 all)) (drop 2 all) _ _ _ c.in_ok-spns.ensures.read (λ _.
-          passed next (take 1 (drop 2 all)) (drop 3 all) _ _ _ c.in_ok-rows.ensures.read.read (λ _.
-          stopped next (take 1 (drop 3 all)) (drop 4 all) _ _ _ c.in_err-width.ensures.read.read c.from_residual-in_err-width.ensures)));
+          passed next (take 6 (drop 1 all)) (drop 7 all) _ _ _ c.in_ok-asked.ensures.read (λ _.
+          passed next (take 1 (drop 7 all)) (drop 8 all) _ _ _ c.in_ok-rows.ensures.read.read (λ _.
+          stopped next (take 1 (drop 8 all)) (drop 9 all) _ _ _ c.in_err-width.ensures.read.read c.from_residual-in_err-width.ensures)));
       memory = search rules;
       in_range = search rules;
     }
@@ -63,12 +62,12 @@ returns-in-Ok c =
     let next = OrMemory form.Is in
     record {
       answer = passed next (take 1 all) (drop 1 all) _ _ _ c.in_ok-bus.ensures.read (λ bus_is.
-          passed next (take 1 (drop 1 all)) (drop 2 all) _ _ _ c.in_ok-spns.ensures.read (λ spns_are.
-          passed next (take 1 (drop 2 all)) (drop 3 all) _ _ _ c.in_ok-rows.ensures.read.read (λ rows_are.
-          passed next (take 1 (drop 3 all)) (drop 4 all) _ _ _ c.in_ok-width.ensures.read.read (λ width_is. (
+          passed next (take 6 (drop 1 all)) (drop 7 all) _ _ _ c.in_ok-asked.ensures.read (λ asked_is.
+          passed next (take 1 (drop 7 all)) (drop 8 all) _ _ _ c.in_ok-rows.ensures.read.read (λ rows_are.
+          passed next (take 1 (drop 8 all)) (drop 9 all) _ _ _ c.in_ok-width.ensures.read.read (λ width_is. (
             c.in-Ok.ensures.0 ∙ bus_is,
             search rules,
-            c.of_spns.ensures ∙ ap asks_for_spns spns_are,
+            asked_is,
             (λ i. record {
               rows = (c.size_for-size.ensures.rows ∙ ap (λ n. unwrap_or n 24 - 1) rows_are) i;
               width = (c.size_for-size.ensures.width ∙ ap (λ n. unwrap_or n 80) width_is) i;

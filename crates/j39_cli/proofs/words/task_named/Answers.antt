@@ -1,6 +1,7 @@
 -- Each command answers what clap met under its name.
 use Rattle.j39_cli.proofs.Common.{codes, refl, found_of}
 use Rattle.j39_cli.specs.CommandWords.{faults, grid, groups, id, name, nodes, report, summary, survey, watch}
+use Rattle.j39_cli.specs.Asked.{asked_found}
 use Rattle.j39_cli.specs.RowOptions.{rows_found}
 use Rattle.j39_cli.proofs.MetLemmas.{tells, tells_none}
 use Rattle.j39_cli.proofs.words.task_named.Goals as goal
@@ -27,7 +28,7 @@ pub returns-in-survey-clause-tells : goal.returns-in-survey-clause-tells
 returns-in-survey-clause-tells c = tells _ (found_of c.args.given.now) c.task-in-survey.result (survey _ _ _ _ _) c.in-survey.is (refl, (refl, (refl, (refl, (refl, tt))))) c.task-in-survey.ensures.answer
 
 pub returns-in-watch-clause-tells : goal.returns-in-watch-clause-tells
-returns-in-watch-clause-tells c = tells _ (found_of c.args.given.now) c.task-in-watch.result (watch _ _ _ _ _ _) c.in-watch.is (refl, (refl, (refl, (refl, (refl, (refl, tt)))))) c.task-in-watch.ensures.answer
+returns-in-watch-clause-tells c = tells _ (found_of c.args.given.now) c.task-in-watch.result (watch _ _ (asked_found (found_of c.args.given.now)) _ _ _) c.in-watch.is (refl, (refl, (refl, (refl, (refl, (refl, (refl, (refl, (refl, (refl, (refl, tt))))))))))) c.task-in-watch.ensures.answer
 
 pub returns-in_ok-required-in-id-clause-tells : goal.returns-in_ok-required-in-id-clause-tells
 returns-in_ok-required-in-id-clause-tells c = tells _ (found_of c.args.given.now) c.task-in-id.result (id _) c.in-id.is

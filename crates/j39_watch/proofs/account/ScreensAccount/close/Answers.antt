@@ -5,8 +5,11 @@ use Rattle.j39_watch.proofs.account.ScreensAccount.close.Goals as goal
 
 pub returns-in_err-lines-clause-stops : goal.returns-in_err-lines-clause-stops
 returns-in_err-lines-clause-stops g c =
-    on_err c.from_residual.result _ (λ subject. watch_stops_at_end subject.1 subject.0 c.args.self.now _ _ c.in_err-lines.ensures.puts.front)
+    on_err c.from_residual.result _ (λ subject.
+    watch_stops_at_end subject.groups subject.which subject.size c.args.self.now _ _ (λ F chosen. (c.in_err-lines.ensures.puts subject.which F chosen).front))
 
 pub returns-clause-closes : goal.returns-clause-closes
 returns-clause-closes g c = λ subject.
-    watch_closes subject.1 subject.0 c.args.self.now c.from.result _ _ (c.from.ensures ∙ c.in_ok-lines.ensures.lines) (omega arith) c.in_ok-lines.ensures.puts.written
+    watch_closes subject.groups subject.which subject.size c.args.self.now c.from.result _ _
+    (λ F chosen. c.from.ensures ∙ c.in_ok-lines.ensures.lines subject.which F chosen) (omega arith)
+    (λ F chosen. (c.in_ok-lines.ensures.puts subject.which F chosen).written)
