@@ -16,7 +16,9 @@ use crate::node_lists::by_address::{ByAddress, put_by_address};
 use j39_address::{Claims, Name};
 use j39_frame::{Frame, Id};
 use j39_io::{DeviceFault, Sink, Source};
-use j39_listen::{Account, Clock, Counts, Format, LineFault, Made, RunFault, Sender, is_from, run_over};
+use j39_listen::{
+    Account, Clock, Counts, Format, LineFault, Made, RunFault, Sender, is_from, run_over,
+};
 use j39_log::Bus;
 use j39_rows::{Column, Head, Plain, put_row};
 
@@ -144,7 +146,12 @@ fn put_node<W: Sink>(address: u8, name: Name, sink: &mut W) -> Result<(), Device
         (turn W.written W.has_failed sink.old sink.new) }
 {
     let columns = [Column::name(Some(name.raw()))];
-    put_row(Format::Line(Clock::Seconds), node_head(address), &columns, sink)
+    put_row(
+        Format::Line(Clock::Seconds),
+        node_head(address),
+        &columns,
+        sink,
+    )
 }
 
 /// What the row of a node begins with.
