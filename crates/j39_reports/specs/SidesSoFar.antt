@@ -1,7 +1,6 @@
 -- What is remembered of the sides of values.
-use Rattle.core.specs.Str.{bytes_eq}
 use Rattle.std.specs.Borrow.{Bor}
-use Rattle.std.specs.Prelude.{◌≡◌, ◌<◌, ◌≤◌, ◌==◌, ◌&&◌, ℕ, Bool, List, Option, None, Some, drop, if◌then◌else◌, not, slice_index_or, true}
+use Rattle.std.specs.Prelude.{◌≡◌, ◌<◌, ◌≤◌, ◌==◌, ◌&&◌, ◌||◌, ℕ, Bool, List, Option, None, Some, bytes_eq, drop, if◌then◌else◌, nat_lt, not, slice_index_or, true}
 use Rattle.j39_groups.specs.Names.{group_name_in, name_in, state_in}
 use Rattle.j39_groups.specs.Row.{RowRecord}
 use Rattle.j39_groups.specs.Value.{ValueRecord}
@@ -26,7 +25,8 @@ AreKnown before behind groups all = (place : ℕ) (d : Sides) → place < 256 �
 -- the sides of a parameter of a group can be learned here: its place is free, or has them for another unit
 abbrev pub is_open_to : Sides → ℕ → ℕ → List ℕ → Bool
 is_open_to sides pgn spn unit =
-    if sides.is_ready && (sides.spn == spn) && (sides.pgn == pgn) then not (bytes_eq (drop sides.unit_from sides.unit) unit)
+    if sides.is_ready && (sides.spn == spn) && (sides.pgn == pgn)
+    then nat_lt 16 sides.unit_from || not (bytes_eq (drop sides.unit_from sides.unit) unit)
     else (sides.pgn == 4294967295)
 
 -- what is missed where these sides stand in the parameter's place

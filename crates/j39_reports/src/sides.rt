@@ -146,7 +146,7 @@ impl Sides {
         ensures { result ≡ is_open_to self.now pgn spn unit.now }
     {
         if self.is_ready && self.spn == spn && self.pgn == pgn {
-            self.unit.get(self.unit_from..) != Some(unit)
+            self.unit_from > UNIT || &self.unit[self.unit_from..] != unit
         } else {
             self.pgn == u32::MAX
         }
@@ -272,7 +272,7 @@ impl<'g, 't, F: SideForm> KnownSides<'g, 't, F> {
     /// this unit.
     pub fn missed(&self, pgn: u32, spn: u32, unit: &'t [u8]) -> Option<Missed<'t>>
         ensures { (place : ℕ) × (place < 256) × ((d : Sides)
-            → result ≡ missed_by (slice_index_or self.now.known place d) pgn spn unit) }
+            → result ≡ missed_by (slice_index_or self.now.known place d) pgn spn unit.entry) }
     {
         let held = self.known[place_of(pgn, spn)];
         if held.is_open_to(pgn, spn, unit) {
