@@ -7,15 +7,15 @@ use Rattle.j39_address.specs.Claim.{claims_of}
 use Rattle.j39_fault_reports.proofs.CurrentLemmas.{shown_all}
 use Rattle.j39_fault_reports.proofs.FaultAccountLemmas.{faults_leave, in_time-append, same_times}
 use Rattle.j39_watch.proofs.LatestLemmas.{came_is}
-use Rattle.j39_fault_reports.specs.CurrentSoFar.{AreKept, taken_below}
-use Rattle.j39_fault_reports.specs.FaultsNow.{Now, now_taken}
+use Rattle.j39_fault_reports.specs.CurrentSoFar.{AreKept, shown_below}
+use Rattle.j39_fault_reports.specs.FaultsNow.{Now}
 use Rattle.j39_fault_reports.specs.Spoken.{active_among, is_active_message}
 use Rattle.j39_watch.specs.LatestSoFar.{AreLatest, LatestRow, latest_at, latest_over, latest_row}
 use Rattle.j39_fault_reports.specs.News.{is_fault_group}
 use Rattle.j39_watch.specs.NotesSoFar.{HasWatched, Keeps, Notes, lines_of_watch, moment_of, screen_of_watch, size_of}
 use Rattle.j39_reports.specs.Summary.{firsts, values_like}
 use Rattle.j39_watch.specs.ScreenSoFar.{lines_of_faults}
-use Rattle.j39_watch.specs.Watch.{AreDrawn, IsDrawn, IsScreen, Latest, MakesWatch, Size, begins_half, entries_asked, fault_shown_line, faults_asked, faults_shown, fitted, is_due, is_due_at, is_shown, is_there, last_stamp, latest_in, latest_of, moment_text, newest, screen_lines, screen_text, value_line}
+use Rattle.j39_watch.specs.Watch.{AreDrawn, IsDrawn, IsScreen, Latest, MakesWatch, Size, begins_half, entries_asked, fault_shown_line, faults_asked, faults_shown, fitted, is_due, is_due_at, is_shown, is_there, last_stamp, latest_in, latest_of, moment_text, newest, nows_asked, screen_lines, screen_text, value_line}
 use Rattle.j39_watch.specs.WatchSoFar.{fault_lines, value_lines}
 use Rattle.j39_watch.specs.declared.account.Screens.{Screens}
 use Rattle.j39_watch.specs.declared.latest.Latest as code
@@ -63,14 +63,14 @@ module _ (groups : List RowRecord) (which : FilterRecord) (size : Size) (w : Scr
       let holder = holder_of w.listener in
       let first = first_stamp F in
       let moment : moment_of w ≡ last_stamp F = ap (λ o. unwrap_or o 0) has.last_is in
-      let faults : flat_map (fault_lines groups holder (last_stamp F)) (taken_below which first w.places 256)
+      let faults : flat_map (fault_lines groups holder (last_stamp F)) (nows_asked which first (shown_below w.places 256))
       ≡ map (fault_shown_line groups (last_stamp F)) (faults_shown holder (faults_asked which first has.faults)) =
-      ap (λ (ns : List Now). flat_map (fault_lines groups holder (last_stamp F)) (now_taken which first ns))
+      ap (λ (ns : List Now). flat_map (fault_lines groups holder (last_stamp F)) (nows_asked which first ns))
       (shown_all [] (in_time which first (active_among has.faults)) w.places has.are_kept 256 (omega arith))
       ∙ faults_are groups holder (last_stamp F) (faults_asked which first has.faults) in
       let values = values_shown groups holder (last_stamp F) (pairs_of w.values.rows) (entries_asked groups which first has.heard) has.are_latest in
-      ap (λ (table : List RowRecord). lines_of_faults table w.listener (moment_of w) (taken_below which first w.places 256) w.values) has.by
-      ∙ ap (λ m. lines_of_faults groups w.listener m (taken_below which first w.places 256) w.values) moment
+      ap (λ (table : List RowRecord). lines_of_faults table w.listener (moment_of w) (nows_asked which first (shown_below w.places 256)) w.values) has.by
+      ∙ ap (λ m. lines_of_faults groups w.listener m (nows_asked which first (shown_below w.places 256)) w.values) moment
       ∙ ap₂ (λ fs vs. moment_text (last_stamp F) ∷ (fs ++ vs)) faults values
 
   pub screen_is : IsScreen groups which size F (screen_of_watch which (first_stamp F) w) (length has.heard)

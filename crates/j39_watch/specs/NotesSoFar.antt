@@ -13,13 +13,13 @@ use Rattle.j39_listen.specs.Report.{Entry, entries_of}
 use Rattle.j39_listen.specs.declared.listener.Listener.{Listener}
 use Rattle.j39_memory.specs.ByOrigin.{pairs_of}
 use Rattle.j39_fault_reports.specs.CurrentPlaces.{LastActives}
-use Rattle.j39_fault_reports.specs.CurrentSoFar.{AreKept, taken_below}
+use Rattle.j39_fault_reports.specs.CurrentSoFar.{AreKept, shown_below}
 use Rattle.j39_fault_reports.specs.Spoken.{active_among}
 use Rattle.j39_watch.specs.LatestSoFar.{AreLatest}
 use Rattle.j39_fault_reports.specs.News.{is_fault_group}
 use Rattle.j39_watch.specs.ScreenSoFar.{lines_of_faults}
 use Rattle.j39_reports.specs.SummaryRun.{WantsRow}
-use Rattle.j39_watch.specs.Watch.{AreDrawn, Size, entries_asked, newest, screen_text}
+use Rattle.j39_watch.specs.Watch.{AreDrawn, Size, entries_asked, newest, nows_asked, screen_text}
 use Rattle.j39_watch.specs.declared.account.Screens.{Screens}
 use Rattle.j39_watch.specs.declared.size.ScreenSize.{ScreenSize}
 use Rattle.j39_watch.specs.declared.values.Values.{Values}
@@ -64,7 +64,7 @@ moment_of watch = unwrap_or (option_map stamp_micros watch.moment.last) 0
 -- the lines of its screen, and the screen, of what is asked for
 abbrev pub lines_of_watch : FilterRecord → ℕ → Screens → List (List ℕ)
 lines_of_watch which first watch =
-    lines_of_faults watch.roles.groups.now watch.listener (moment_of watch) (taken_below which first watch.places 256) watch.values
+    lines_of_faults watch.roles.groups.now watch.listener (moment_of watch) (nows_asked which first (shown_below watch.places 256)) watch.values
 
 abbrev pub screen_of_watch : FilterRecord → ℕ → Screens → List ℕ
 screen_of_watch which first watch = screen_text (size_of watch.size) (lines_of_watch which first watch)

@@ -14,7 +14,7 @@ use Rattle.j39_groups.specs.Row.{RowRecord}
 use Rattle.j39_groups.specs.ValueText.{value_text}
 use Rattle.j39_listen.specs.Asking.{AsksForBoxes, Wanting}
 use Rattle.j39_listen.specs.Counting.{capped}
-use Rattle.j39_listen.specs.Filter.{FilterRecord, first_stamp, in_time, messages_taken}
+use Rattle.j39_listen.specs.Filter.{FilterRecord, asks_for, first_stamp, in_time, messages_taken}
 use Rattle.j39_listen.specs.Heard.{AreHeard, AreHeardWith, Hearing}
 use Rattle.j39_listen.specs.Output.{Making}
 use Rattle.j39_listen.specs.Report.{Entry, entries_of, name_text}
@@ -23,7 +23,7 @@ use Rattle.j39_fault_reports.specs.Faults.{name_in}
 use Rattle.j39_faults.specs.Text.{code_text}
 use Rattle.j39_faults.specs.declared.code.Code.{Code}
 use Rattle.j39_faults.specs.declared.lamps.Lamps.{Lamps}
-use Rattle.j39_fault_reports.specs.FaultsNow.{Now, faults_now, now_taken}
+use Rattle.j39_fault_reports.specs.FaultsNow.{Now, faults_now}
 use Rattle.j39_fault_reports.specs.Spoken.{active_among}
 use Rattle.j39_fault_reports.specs.FaultsNowRun.{IsFirstActive}
 use Rattle.j39_fault_reports.specs.News.{is_fault_group}
@@ -80,9 +80,16 @@ latest_in holder now entries =
 
 -- ---- faults
 
+-- the message by which it was told last is asked for
+abbrev pub asks_now : FilterRecord → ℕ → Now → Bool
+asks_now which first n = asks_for which first n.last n.address n.name n.destination n.pgn
+
+abbrev pub nows_asked : FilterRecord → ℕ → List Now → List Now
+nows_asked which first ns = filter (asks_now which first) ns
+
 -- what is asked for of them, as `faults --now` tells it
 abbrev pub faults_asked : FilterRecord → ℕ → List Hearing → List Now
-faults_asked which first heard = now_taken which first (faults_now [] (in_time which first (active_among heard)))
+faults_asked which first heard = nows_asked which first (faults_now [] (in_time which first (active_among heard)))
 
 -- the codes of the controllers that are there
 abbrev pub is_shown : (ℕ → Option ℕ) → Now → Bool
