@@ -20,6 +20,7 @@ LIES(j1939_claims, 2288);
 LIES(j1939_node, 2312);
 LIES(j1939_handle, 16);
 LIES(j1939_ended, 16);
+_Static_assert(sizeof(j1939_wrong) == 8 && offsetof(j1939_wrong, column) == 4, "j1939_wrong");
 _Static_assert(offsetof(j1939_node, moment) == 16 && offsetof(j1939_node, claims) == 24, "j1939_node");
 
 /* The proved calls, as the crate j39_c exports them: a size has 64 bits on every machine. None of their pointers may be
@@ -31,6 +32,13 @@ int32_t j39_name_compose(const j1939_name_fields *fields, uint64_t *name);
 int32_t j39_reading(const j1939_message *message, j1939_reading *reading, uint64_t index);
 int32_t j39_reading_text(const j1939_message *message, uint64_t index, char *text, uint64_t room);
 int32_t j39_report_line(const j1939_message *message, uint64_t index, char *text, uint64_t room);
+int32_t j39_table_check(const char *table, uint64_t size, j1939_wrong *wrong);
+int32_t j39_reading_by(const char *table, uint64_t size, const j1939_message *message, j1939_reading *reading,
+                       uint64_t index);
+int32_t j39_reading_text_by(const char *table, uint64_t size, const j1939_message *message, uint64_t index, char *text,
+                            uint64_t room);
+int32_t j39_report_line_by(const char *table, uint64_t size, const j1939_message *message, uint64_t index, char *text,
+                           uint64_t room);
 int32_t j39_raw_of(uint32_t spn, int64_t value, uint32_t *raw);
 int32_t j39_fault(const j1939_message *message, j1939_fault *fault, uint64_t index);
 int32_t j39_lamps(const j1939_message *message, j1939_lamps *lamps);
@@ -133,6 +141,29 @@ int32_t j1939_read_text(const j1939_message *message, size_t index, char *text, 
 
 int32_t j1939_report_line(const j1939_message *message, size_t index, char *text, size_t room) {
     return message && text ? j39_report_line(message, index, text, room) : J1939_NULL;
+}
+
+int32_t j1939_table_init(j1939_table *table, const char *text, size_t size, j1939_wrong *wrong) {
+    if (!table || !text || !wrong) return J1939_NULL;
+    int32_t answer = j39_table_check(text, size, wrong);
+    if (answer == 0) *table = (j1939_table){text, size};
+    return answer;
+}
+
+int32_t j1939_read_by(const j1939_table *table, const j1939_message *message, size_t index, j1939_reading *reading) {
+    if (!table || !table->text || !message || !reading) return J1939_NULL;
+    return j39_reading_by(table->text, table->size, message, reading, index);
+}
+
+int32_t j1939_read_text_by(const j1939_table *table, const j1939_message *message, size_t index, char *text, size_t room) {
+    if (!table || !table->text || !message || !text) return J1939_NULL;
+    return j39_reading_text_by(table->text, table->size, message, index, text, room);
+}
+
+int32_t j1939_report_line_by(const j1939_table *table, const j1939_message *message, size_t index, char *text,
+                             size_t room) {
+    if (!table || !table->text || !message || !text) return J1939_NULL;
+    return j39_report_line_by(table->text, table->size, message, index, text, room);
 }
 
 int32_t j1939_raw_of(uint32_t spn, int64_t value, uint32_t *raw) {

@@ -179,6 +179,37 @@ int32_t j1939_read_text(const j1939_message *message, size_t index, char *text, 
  * @return 0 to room, J1939_BAD_VALUE, J1939_NO_MEMORY, J1939_NO_ROOM, J1939_END */
 int32_t j1939_report_line(const j1939_message *message, size_t index, char *text, size_t room);
 
+/** A table of parameters of your own: its text, lines as the command groups prints them (docs/FORMATS.md). The text stays yours, and
+ * has to stay as it is while the table is used; it may lie in read-only memory. Nothing has to be closed. */
+typedef struct {
+    const char *text; /**< of j1939_table_init */
+    size_t size;      /**< how many bytes it has */
+} j1939_table;
+
+/** Where a text is wrong that is no table. Columns are 1 PGN, 2 group, 3 SPN, 4 place, 5 step, 6 offset, 7 unit, 8 name and 9 states. */
+typedef struct {
+    uint32_t line;  /**< the first wrong line, from 1 on; 0 of a text of more than 1048576 bytes */
+    uint8_t column; /**< its first wrong column; 0 of such a text, and of a line behind 65536 rows */
+} j1939_wrong;
+
+/** Makes a table of a text. J1939_BAD_VALUE for one that is none: then *wrong says where, and the table stays as it was.
+ * @return 0, J1939_BAD_VALUE */
+int32_t j1939_table_init(j1939_table *table, const char *text, size_t size, j1939_wrong *wrong);
+
+/** j1939_read by a table of your own, whose lines are read each time. A listener hears its groups in single frames by
+ * j1939_listener_feed_as. J1939_NO_ROOM where the unit has more than seven bytes.
+ * @return 0, J1939_BAD_VALUE, J1939_NO_ROOM, J1939_END */
+int32_t j1939_read_by(const j1939_table *table, const j1939_message *message, size_t index, j1939_reading *reading);
+
+/** j1939_read_text by a table of your own.
+ * @return 0 to room, J1939_BAD_VALUE, J1939_NO_MEMORY, J1939_NO_ROOM, J1939_END */
+int32_t j1939_read_text_by(const j1939_table *table, const j1939_message *message, size_t index, char *text, size_t room);
+
+/** j1939_report_line by a table of your own.
+ * @return 0 to room, J1939_BAD_VALUE, J1939_NO_MEMORY, J1939_NO_ROOM, J1939_END */
+int32_t j1939_report_line_by(const j1939_table *table, const j1939_message *message, size_t index, char *text,
+                             size_t room);
+
 /** The raw number of a value of a parameter, in units of its last decimal place: 1 and the number, or 0 where there is
  * none: the parameter is no number, or the value is off its steps or its valid range. A reading of the parameter tells
  * its places: an engine speed (190) has three, so 1,500 rpm are 1500000.

@@ -15,8 +15,8 @@
 # It has the repository's top in `top`, its own name in `test`, a folder in `work`, and in `began` what it starts and has to end.
 top=$(cd "$(dirname "${BASH_SOURCE[0]}")/.." && pwd)
 test=tests/$(basename "$0")
-# The size of the terminal that a test runs in is none of what it tries.
-unset LINES COLUMNS
+# The terminal that a test runs in is none of what it tries.
+unset LINES COLUMNS NO_COLOR
 # shellcheck disable=SC2034 # Who sources this file uses them; what has these names in the environment is none of them.
 program='' library='' page='' demo=''
 . "$top/tools/built.sh"

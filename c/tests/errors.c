@@ -326,6 +326,48 @@ static void report_lines(void) {
     message.pgn = 61444;
 }
 
+/* A table of two groups of one's own, the second of them EEC1's: a number of two bytes, each worth 0.5 with an offset of -10, and a
+ * text. */
+static const char own_rows[] = "# mine\r\n"
+                               "65280 MINE 520200 1-2 0.5 -10.0 degC coolant of mine\n"
+                               "\n"
+                               "61444 EEC1 520201 4-5 1 0 a.long.unit speed of mine\n"
+                               "65280 MINE 520202 *1 - - - words of mine";
+
+static void own_table(void) {
+    static const char line[] = "(0000000000.000000) 0B ---------------- 65280 520200 118.5 degC\n";
+    static j1939_message mine = {.pgn = 65280, .len = 8, .source = 0x0B, .data = {0x01, 0x01, 'A', 'B', '*', 0, 0, 0}};
+    j1939_table table = {NULL, 0};
+    j1939_wrong wrong = {7, 7};
+    j1939_reading reading = {.spn = 5};
+    char text[80];
+    EXPECT(j1939_read_by(&table, &mine, 0, &reading) == J1939_NULL);
+    EXPECT(j1939_table_init(NULL, own_rows, 1, &wrong) == J1939_NULL && j1939_table_init(&table, NULL, 1, &wrong) == J1939_NULL);
+    EXPECT(j1939_table_init(&table, "65280 MINE 520200 1-2 half 0 - name", 35, &wrong) == J1939_BAD_VALUE);
+    EXPECT(wrong.line == 1 && wrong.column == 5 && !table.text);
+    EXPECT(j1939_table_init(&table, "#\n\n61444 EEC1 x", 16, &wrong) == J1939_BAD_VALUE && wrong.line == 3 && wrong.column == 3);
+    wrong.line = 7;
+    EXPECT(j1939_table_init(&table, own_rows, sizeof own_rows - 1, &wrong) == 0 && wrong.line == 7 && table.text == own_rows);
+    /* 257 steps of 0.5 above -10 (J1939-71) */
+    EXPECT(j1939_read_by(&table, &mine, 0, &reading) == 0 && reading.spn == 520200 && reading.kind == J1939_NUMBER);
+    EXPECT(reading.number == 1185 && reading.places == 1 && strcmp(reading.unit, "degC") == 0);
+    EXPECT(j1939_report_line_by(&table, &mine, 0, text, sizeof text) == sizeof line - 1 && memcmp(text, line, sizeof line - 1) == 0);
+    EXPECT(j1939_read_text_by(&table, &mine, 0, text, sizeof text) == 10 && memcmp(text, "118.5 degC", 10) == 0);
+    EXPECT(j1939_read_by(&table, &mine, 1, &reading) == 0 && reading.spn == 520202 && reading.kind == J1939_TEXT);
+    EXPECT(j1939_read_by(&table, &mine, 2, &reading) == J1939_END && j1939_read_text_by(&table, &mine, 2, text, 80) == J1939_END);
+    allowed = 0;
+    EXPECT(j1939_read_text_by(&table, &mine, 0, text, sizeof text) == J1939_NO_MEMORY && j1939_read_by(&table, &mine, 0, &reading) == 0);
+    allowed = -1;
+    mine.pgn = 61444;
+    EXPECT(j1939_read_by(&table, &mine, 0, &reading) == J1939_NO_ROOM && reading.spn == 520200);
+    EXPECT(j1939_read_text_by(&table, &mine, 0, text, sizeof text) > 0);
+    mine.pgn = 65262;
+    EXPECT(j1939_read_by(&table, &mine, 0, &reading) == J1939_END);
+    mine.len = 1786;
+    EXPECT(j1939_read_by(&table, &mine, 0, &reading) == J1939_BAD_VALUE);
+    EXPECT(j1939_report_line_by(&table, &mine, 0, text, 80) == J1939_BAD_VALUE);
+}
+
 static void readings(void) {
     j1939_reading reading;
     char text[64];
@@ -351,6 +393,7 @@ static void readings(void) {
     EXPECT(j1939_read(&message, 0, &reading) == 0 && reading.spn == 190 && reading.kind == J1939_NUMBER);
     EXPECT(reading.number == 1500000 && reading.places == 3 && strcmp(reading.unit, "rpm") == 0);
     report_lines();
+    own_table();
     EXPECT(j1939_raw_of(190, 1500000, &raw) == 1 && raw == 12000);
     EXPECT(j1939_raw_of(190, 1, &raw) == 0 && raw == 12000);
 }

@@ -29,6 +29,7 @@ __all__ = [
     "Name",
     "Reading",
     "Refused",
+    "Table",
     "failure_name",
     "frames",
     "function_name",
@@ -40,13 +41,13 @@ __all__ = [
 ]
 
 LONGEST = 1785
-LONGEST_TEXT = 7142
+LONGEST_LINE = 7200
 LONGEST_NAME = 80
 BAD_VALUE, NO_MEMORY, END = -1, -3, -6
 
 
 class Refused(ValueError):
-    """A number is out of its range, or a listener is closed."""
+    """A number is out of its range, a text is no table, or a listener is closed."""
 
 
 _U8, _U16, _U32, _U64 = ctypes.c_uint8, ctypes.c_uint16, ctypes.c_uint32, ctypes.c_uint64
@@ -62,8 +63,12 @@ class _Message(ctypes.Structure):
                 ("data", _U8 * LONGEST), ("is_addressed", _U8), ("destination", _U8)]
 
 
-class _Reading(ctypes.Structure):
-    _fields_ = [("number", ctypes.c_int64), ("spn", _U32), ("kind", _U8), ("places", _U8), ("unit", ctypes.c_char * 8)]
+class _Table(ctypes.Structure):
+    _fields_ = [("text", ctypes.c_char_p), ("size", ctypes.c_size_t)]
+
+
+class _Wrong(ctypes.Structure):
+    _fields_ = [("line", _U32), ("column", _U8)]
 
 
 class _Fault(ctypes.Structure):
@@ -88,8 +93,9 @@ def _load() -> ctypes.CDLL:
     library = ctypes.CDLL(os.environ.get("J1939_SHARED") or (str(beside) if beside.exists() else "libj1939.so.0.2"))
     # size_t is wider than what ctypes takes a number for, and an identifier isn't signed.
     pointer, size, word = ctypes.c_void_p, ctypes.c_size_t, ctypes.c_uint32
-    library.j1939_read.argtypes = [pointer, size, pointer]
-    library.j1939_read_text.argtypes = [pointer, size, ctypes.c_char_p, size]
+    library.j1939_table_init.argtypes = [pointer, ctypes.c_char_p, size, pointer]
+    library.j1939_report_line.argtypes = [pointer, size, ctypes.c_char_p, size]
+    library.j1939_report_line_by.argtypes = [pointer, pointer, size, ctypes.c_char_p, size]
     library.j1939_fault_at.argtypes = [pointer, size, pointer]
     for number in ("parameter", "group", "function", "maker", "failure"):
         getattr(library, f"j1939_{number}_name").argtypes = [word, ctypes.c_char_p, size]
@@ -172,6 +178,26 @@ class Name(NamedTuple):
         return name.value
 
 
+class Table:
+    """A table of parameters of your own: its text, lines as `j1939 groups` prints them (docs/FORMATS.md). A text that is none is
+    refused, by its first wrong line and column."""
+
+    def __init__(self, text: Union[str, bytes]) -> None:
+        # The library reads it as long as the table is used.
+        self._text = text.encode("utf-8", "surrogateescape") if isinstance(text, str) else bytes(text)
+        self._plain, wrong = _Table(), _Wrong()
+        if _library.j1939_table_init(ctypes.byref(self._plain), self._text, len(self._text), ctypes.byref(wrong)) < 0:
+            raise Refused(_wrong(wrong.line, wrong.column))
+
+
+def _wrong(line: int, column: int) -> str:
+    """What is wrong with a text that is no table."""
+    if column == 0:
+        return "more than 1048576 bytes or 65536 rows"
+    name = "PGN group SPN place step offset unit name states".split()[column - 1]
+    return f"line {line}, column {column}: no {name}"
+
+
 class Reading(NamedTuple):
     """A parameter of a message: its SPN; its value, a number to the slot's resolution, True or False of a switch, or a text, and
     None where the sender reports no value; a number's unit; and what `report` prints of it."""
@@ -211,19 +237,11 @@ class Message(NamedTuple):
     destination: Optional[int]
     data: bytes
 
-    def readings(self) -> Iterator[Reading]:
-        """The parameters in it, by the built-in table; none of a group that it lacks (J1939-71)."""
-        message, reading = self._plain(), _Reading()
-        text = ctypes.create_string_buffer(LONGEST_TEXT)
-        index = 0
-        while True:
-            answer = _library.j1939_read(ctypes.byref(message), index, ctypes.byref(reading))
-            if answer == END:
-                return
-            _answer(answer)
-            size = _answer(_library.j1939_read_text(ctypes.byref(message), index, text, LONGEST_TEXT))
-            yield _reading(reading, text.raw[:size].decode("ascii"))
-            index += 1
+    def readings(self, table: Optional[Table] = None) -> Iterator[Reading]:
+        """The parameters in it, by the built-in table or your own; none of a group that it lacks (J1939-71)."""
+        for line in self._replace(micros=0, source=0, name=None).lines(table):
+            *_, spn, text = line.split(" ", 5)
+            yield Reading(int(spn), *_value(text), text)
 
     def faults(self) -> Iterator[Fault]:
         """The trouble codes of a DM1, DM2 and their kin; none of another group (J1939-73, 5.7)."""
@@ -245,12 +263,22 @@ class Message(NamedTuple):
         told = ("malfunction", "red", "amber", "protect")
         return {lamp: Lamp({0: False, 1: True}.get(lamps[2 * i]), lamps[2 * i + 1] < 2) for i, lamp in enumerate(told)}
 
-    def lines(self) -> Iterator[str]:
-        """The report's lines of it."""
-        stamp = "(%010d.%06d)" % divmod(self.micros, 1_000_000)
-        name = "-" * 16 if self.name is None else "%016X" % self.name
-        for reading in self.readings():
-            yield f"{stamp} {self.source:02X} {name} {self.pgn} {reading.spn} {reading.text}"
+    def lines(self, table: Optional[Table] = None) -> Iterator[str]:
+        """The report's lines of it, by the built-in table or your own."""
+        message = self._plain()
+        message.micros, message.source = _fits(self.micros, 64), _fits(self.source, 8)
+        message.name, message.is_named = _fits(self.name or 0, 64), self.name is not None
+        room = LONGEST_LINE if table is None else LONGEST_LINE + len(table._text)
+        line, index = ctypes.create_string_buffer(room), 0
+        while True:
+            if table is None:
+                size = _library.j1939_report_line(ctypes.byref(message), index, line, room)
+            else:
+                size = _library.j1939_report_line_by(ctypes.byref(table._plain), ctypes.byref(message), index, line, room)
+            if size == END:
+                return
+            yield ctypes.string_at(line, _answer(size) - 1).decode("utf-8", "surrogateescape")
+            index += 1
 
     def _plain(self) -> _Message:
         if len(self.data) > LONGEST:
@@ -268,13 +296,18 @@ class Listener:
         _answer(_library.j1939_listener_new(ctypes.byref(self._handle)))
         self._message = _Message()
 
-    def feed(self, frame: Frame) -> Optional[Message]:
-        """Hears the next frame of the bus: the message that is whole by it. A frame that is out of range is refused."""
+    def feed(self, frame: Frame, is_single: Optional[bool] = None) -> Optional[Message]:
+        """Hears the next frame of the bus: the message that is whole by it. A frame that is out of range is refused. The built-in
+        table says whether the frame's group is heard in one frame, or `is_single` does, as for groups of a table of your own."""
         if len(frame.data) > 8:
             raise Refused("a frame has at most 8 bytes")
         plain = _Frame(_fits(frame.micros, 64), _fits(frame.id, 32), len(frame.data), (ctypes.c_uint8 * 8)(*frame.data))
-        message = self._message
-        if not _answer(_library.j1939_listener_feed(ctypes.byref(self._handle), ctypes.byref(plain), ctypes.byref(message))):
+        handle, message = ctypes.byref(self._handle), self._message
+        if is_single is None:
+            answer = _library.j1939_listener_feed(handle, ctypes.byref(plain), ctypes.byref(message))
+        else:
+            answer = _library.j1939_listener_feed_as(handle, is_single, ctypes.byref(plain), ctypes.byref(message))
+        if not _answer(answer):
             return None
         return Message(
             message.micros,
@@ -352,14 +385,15 @@ def frames(log: Log) -> Iterator[tuple[str, Frame]]:
             yield bus.decode("latin-1"), Frame(int(seconds + micros), int(identifier, 16), bytes.fromhex(data.decode()))
 
 
-def report(log: Log, bus: Optional[str] = None) -> Iterator[str]:
-    """The lines of `j1939 report` of a log: of the bus named, or of the first frame's."""
+def report(log: Log, bus: Optional[str] = None, table: Optional[Table] = None) -> Iterator[str]:
+    """The lines of `j1939 report` of a log: of the bus named, or of the first frame's; by the built-in table or your own."""
+    is_single = None if table is None else True
     with Listener() as listener:
         for name, frame in frames(log):
             bus = name if bus is None else bus
-            message = listener.feed(frame) if name == bus else None
+            message = listener.feed(frame, is_single) if name == bus else None
             if message is not None:
-                yield from message.lines()
+                yield from message.lines(table)
 
 
 def parameter_name(spn: int) -> Optional[str]:
@@ -400,14 +434,12 @@ def _fits(number: int, bits: int) -> int:
     return number
 
 
-def _reading(reading: _Reading, text: str) -> Reading:
-    unit = reading.unit.decode("ascii")
-    number, on, off, words = 0, 1, 2, 6
-    if reading.kind == number:
-        return Reading(reading.spn, Decimal(reading.number).scaleb(-reading.places), unit, text)
-    if reading.kind in (on, off):
-        return Reading(reading.spn, reading.kind == on, unit, text)
-    return Reading(reading.spn, _ESCAPED.sub(_unescape, text[1:-1]) if reading.kind == words else None, unit, text)
+def _value(text: str) -> tuple[Union[Decimal, bool, str, None], str]:
+    """The value and the unit that the report prints so."""
+    if text.startswith('"'):
+        return _ESCAPED.sub(_unescape, text[1:-1]), ""
+    number, _, unit = text.partition(" ")
+    return (Decimal(number), unit) if unit else ({"on": True, "off": False}.get(text), "")
 
 
 _ESCAPED = re.compile(r"\\x([0-9A-F]{2})")

@@ -147,6 +147,9 @@ class Program:
                 else:
                     fields.append(f"const void *p{number};")
                     values.append(part)
+            if not fields:
+                # What has no bytes has a place too, and C has no empty struct.
+                fields, values = ["uint8_t b0[1];"], ["{0}"]
             yield f"static const struct {{ _Alignas({it.alignment}) {' '.join(fields)} }} {self.names[it.name]} = {{{', '.join(values)}}};"
 
     def flatten(self, it, kind, value, offset, out):

@@ -68,6 +68,7 @@ function wireNotices() {
 function start() {
   functionNames = namesOf('function-names');
   addressNames = namesOf('address-names');
+  makerNames = namesOf('maker-names');
   parameters = new Table('parameters', PARAMETER_COLUMNS, { before: { name: 'plot', make: plotToolsOf }, mark: markLine });
   faults = new Table('faults', FAULT_COLUMNS);
   wireLog();

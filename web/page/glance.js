@@ -3,7 +3,7 @@ const SILENT = 5; // seconds at the log's end in which who talks is heard (own)
 const KEY_FACTS = [['237', 'VIN'], ['586', 'make'], ['587', 'model'], ['588', 'serial number'], ['247', 'engine hours'], ['917', 'distance'], ['245', 'distance']];
 const LAMPS = { malfunction: '\u25CF', red: '\u25A0', amber: '\u25B2', protect: '\u25C6' }; // shapes, for who doesn't tell their colours
 
-let functionNames = new Map(), addressNames = new Map();
+let functionNames = new Map(), addressNames = new Map(), makerNames = new Map();
 let glance = { rows: [], codes: null, nodes: [] };
 
 // A table of names has lines of a number and its name.
@@ -103,9 +103,9 @@ function beforeCard({ before, ended }) {
 function silentCard() {
   const heard = glance.nodes.filter(node => node.heard).map(node => ({ node, at: Number(node.heard.slice(1, -1)) }));
   const end = Math.max(...heard.map(({ at }) => at));
-  const silent = heard.filter(({ at }) => end - at > SILENT);
-  return listOf('Who fell silent', silent.map(({ node, at }) => `${boxOf(node.address)}: last heard ${clock(at * 1000)}, ${(end - at).toFixed(1)} s before the end`),
-    `All who talked were heard in the last ${SILENT} seconds.`);
+  const silent = heard.filter(({ at }) => end - at > SILENT).map(({ node, at }) => `${boxOf(node.address)}: last heard ${clock(at * 1000)}, ${(end - at).toFixed(1)} s before the end`);
+  const between = heard.filter(({ node }) => node.longest).map(({ node }) => `${boxOf(node.address)}: ${Number(node.longest).toFixed(1)} s from ${clock(node.since * 1000)} on`);
+  return listOf('Who fell silent', [...silent, ...between], `Nobody who talked was silent for ${SILENT} seconds.`);
 }
 
 function errorsCard() {

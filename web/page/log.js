@@ -160,11 +160,12 @@ function showHint({ frames, other, unread, values }) {
 }
 
 const dateOf = stamp => stamp ? clock(Number(stamp.slice(1, -1)) * 1000) : '';
+const withName = (number, name) => [number, name].filter(word => word !== undefined).join(', ');
 const NODE_COLUMNS = [
   ['address', node => `${parseInt(node.address, 16)} (${node.address})`], ['NAME', node => node.name || '-'.repeat(16), 'code'],
   ['last claim', node => dateOf(node.claimed)], ['last frame', node => dateOf(node.heard)],
-  ['function', ({ fields }) => [fields.function, functionNames.get(fields.function)].filter(word => word !== undefined).join(', ')], ['manufacturer code', ({ fields }) => fields.manufacturer, 'n'],
-  ['industry group', ({ fields }) => [fields.industry, INDUSTRIES[fields.industry]].filter(word => word !== undefined).join(', ')],
+  ['function', ({ fields }) => withName(fields.function, functionNames.get(fields.function))], ['manufacturer', ({ fields }) => withName(fields.manufacturer, makerNames.get(fields.manufacturer))],
+  ['industry group', ({ fields }) => withName(fields.industry, INDUSTRIES[fields.industry])],
   ['vehicle system', ({ fields }) => fields.system, 'n'], ['function instance', ({ fields }) => fields.functionInstance, 'n'],
   ['ECU instance', ({ fields }) => fields.ecuInstance, 'n'], ['system instance', ({ fields }) => fields.systemInstance, 'n'],
   ['identity number', ({ fields }) => fields.identity, 'n'], ['may change address', ({ fields }) => ['no', 'yes'][fields.arbitrary]],

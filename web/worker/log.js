@@ -81,7 +81,8 @@ function readRest(post) {
   const holders = textIn(textOf(it, 'j39_nodes', [log, named], MEMORY_PAGE).bytes).split('\n').filter(Boolean);
   post({ nodes: holders.map(line => {
     const [address, name, claimed, heard] = line.split(' ').map(field => field.replace(/^-+$/, ''));
-    return { address, name, claimed, heard, fields: name ? fieldsOf(it, name) : {} };
+    const [, longest, since] = / longest (\S+) since \((\S+)\)/.exec(line) || [];
+    return { address, name, claimed, heard, longest, since, fields: name ? fieldsOf(it, name) : {} };
   }) });
   post({ survey: textIn(textOf(it, 'j39_survey', it.given, ROOM).bytes) });
 }

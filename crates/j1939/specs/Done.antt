@@ -4,6 +4,9 @@ use Rattle.std.specs.List.{All, Contains}
 use Rattle.j39_io.specs.Turn.{Device, Turn}
 use Rattle.j39_groups.specs.Row.{RowRecord}
 use Rattle.j39_groups.specs.Table.{the_table}
+use Rattle.j39_names.specs.Naming.{NamingRecord}
+use Rattle.j39_names.specs.declared.naming.Named.{Named}
+use Rattle.j39_table.specs.Names.{IsNamesFault, IsNamesOf}
 use Rattle.j39_table.specs.Tables.{IsFaultOf, IsTableOf}
 use Rattle.j39_table.specs.declared.fault.TableFault.{TableFault}
 use Rattle.j39_table.specs.declared.fault.TableFault.TheVariants.{Memory}
@@ -15,7 +18,7 @@ use Rattle.j39_cli.specs.FileEnds.{Ends, IsEndsOfSome, files_text}
 use Rattle.j39_cli.specs.OwnTable.{table_line}
 use Rattle.j39_cli.specs.Refusal.{IsHelp, IsWrongLine, error_line, error_words, folder_line, out_words}
 use Rattle.j39_cli.specs.Spelling.{IsSpelled}
-use Rattle.j39_cli.specs.Task.{IsPerformed, asks_input_twice, files_of, table_of}
+use Rattle.j39_cli.specs.Task.{IsPerformed, asks_input_twice, files_of, names_of, table_of}
 use Rattle.j39_cli.specs.Tells.{Tells}
 use Rattle.j39_cli.specs.Unknown.{asks_for_unknown, unknown_text}
 use Rattle.j39_cli.specs.declared.task.ParseFault.{ParseFault}
@@ -36,14 +39,14 @@ TellsFolder file status out err = TellsLine (folder_line file) status out err
 abbrev pub TellsUnopened : List ℕ → ℕ → Turn → Turn → Type 0
 TellsUnopened file status out err = TellsLine (error_line (codes "cannot open ") file) status out err
 
--- what is wrong with the table of this name is told
+-- what is wrong with the table or the names of this name is told
 abbrev pub TellsFault : List ℕ → TableFault → ℕ → Turn → Turn → Type 0
 TellsFault name fault status out err = TellsLine (table_line name fault) status out err
 
--- the task was performed by these rows over what each of its FILEs holds, one behind the other, as one log that no fault has
+-- the task was performed by these names over what each of its FILEs holds, one behind the other, as one log that no fault has
 -- come to; before that it was told which of them is no log and which begins before the end of those before it, by what was seen at
 -- both ends of each
-pub record IsDoneOver (rows : List RowRecord) (task : Task) (status : ℕ) (out err : Turn) : Type 0 where
+pub record IsDoneOver (naming : NamingRecord) (task : Task) (status : ℕ) (out err : Turn) : Type 0 where
   pub ends : List Ends
   pub of_each : map (λ (e : Ends). e.file) ends ≡ files_of task
   pub seen : All IsEndsOfSome ends
@@ -54,12 +57,12 @@ pub record IsDoneOver (rows : List RowRecord) (task : Task) (status : ℕ) (out 
   pub log : Turn
   pub joined : log.old.bytes ≡ joined_known held
   pub sound : log.old.has_failed ≡ false
-  pub performed : IsPerformed rows task status log out (record { old = between; new = err.new })
+  pub performed : IsPerformed naming task status log out (record { old = between; new = err.new })
 
 -- so it was; or one of its FILEs can't be opened or is a folder, or memory for all of them was refused, and nothing is written
-abbrev pub IsDoneOnce : List RowRecord → Task → ℕ → Turn → Turn → Type 0
-IsDoneOnce rows task status out err =
-    IsDoneOver rows task status out err
+abbrev pub IsDoneOnce : NamingRecord → Task → ℕ → Turn → Turn → Type 0
+IsDoneOnce naming task status out err =
+    IsDoneOver naming task status out err
     ⊎ (((file : List ℕ) × Contains (files_of task) file × (TellsUnopened file status out err ⊎ TellsFolder file status out err))
     ⊎ TellsLine (error_line (codes "out of memory") []) status out err)
 
@@ -71,33 +74,44 @@ pub record FindsNone (rows : List RowRecord) (task : Task) (status : ℕ) (out e
   pub told : Tells err (unknown_text rows task)
 
 -- it was done behind the words on those that no row has
-pub record IsDoneBehind (rows : List RowRecord) (task : Task) (status : ℕ) (out err : Turn) : Type 0 where
-  pub some_found : asks_for_unknown rows task ≡ false
+pub record IsDoneBehind (naming : NamingRecord) (task : Task) (status : ℕ) (out err : Turn) : Type 0 where
+  pub some_found : asks_for_unknown naming.rows task ≡ false
   pub between : Device
-  pub told : Tells (record { old = err.old; new = between }) (unknown_text rows task)
-  pub done : IsDoneOnce rows task status out (record { old = between; new = err.new })
+  pub told : Tells (record { old = err.old; new = between }) (unknown_text naming.rows task)
+  pub done : IsDoneOnce naming task status out (record { old = between; new = err.new })
 
-abbrev pub IsDoneBy : List RowRecord → Task → ℕ → Turn → Turn → Type 0
-IsDoneBy rows task status out err = FindsNone rows task status out err ⊎ IsDoneBehind rows task status out err
+abbrev pub IsDoneBy : NamingRecord → Task → ℕ → Turn → Turn → Type 0
+IsDoneBy naming task status out err = FindsNone naming.rows task status out err ⊎ IsDoneBehind naming task status out err
 
--- the task was done by the rows that a table's text says; or the text says none, and why is told
-abbrev pub IsDoneByText : List ℕ → List ℕ → Task → ℕ → Turn → Turn → Type 0
-IsDoneByText name text task status out err =
-    ((rows : List RowRecord) × IsTableOf text rows × IsDoneBy rows task status out err)
-    ⊎ ((fault : TableFault) × IsFaultOf text fault × TellsFault name fault status out err)
-
--- the table of this name has a text, by which the task was done; or the file can't be read, or is a folder, or memory for its
--- text was refused
-abbrev pub IsDoneByName : List ℕ → Task → ℕ → Turn → Turn → Type 0
-IsDoneByName name task status out err =
-    ((text : List ℕ) × IsDoneByText name text task status out err)
+-- a file has a text, and this was done by it; or the file can't be read, or is a folder, or memory for its text was refused
+abbrev pub IsDoneByFile : (List ℕ → ℕ → Turn → Turn → Type 0) → List ℕ → ℕ → Turn → Turn → Type 0
+IsDoneByFile ByText name status out err =
+    ((text : List ℕ) × ByText text status out err)
     ⊎ (TellsUnopened name status out err ⊎ (TellsFolder name status out err ⊎ TellsFault name Memory status out err))
 
--- the task was done by the table that it names, or else by the built-in one
+-- the task was done by these names of one's own and the rows that a table's text says; or the text says none, and why is told
+abbrev pub IsDoneByText : List Named → List ℕ → Task → List ℕ → ℕ → Turn → Turn → Type 0
+IsDoneByText own name task text status out err =
+    ((rows : List RowRecord) × IsTableOf text rows × IsDoneBy (record { own = own; rows = rows }) task status out err)
+    ⊎ ((fault : TableFault) × IsFaultOf text fault × TellsFault name fault status out err)
+
+-- the task was done by these names of one's own and the table that it names, or else the built-in one
+abbrev pub IsDoneNaming : List Named → Task → ℕ → Turn → Turn → Type 0
+IsDoneNaming own task status out err =
+    MatchOption (table_of task) (IsDoneBy (record { own = own; rows = the_table }) task status out err)
+    (λ name. IsDoneByFile (IsDoneByText own name task) name status out err)
+
+-- so it was by the names that a text says; or the text says none, and why is told
+abbrev pub IsDoneByNames : List ℕ → Task → List ℕ → ℕ → Turn → Turn → Type 0
+IsDoneByNames name task text status out err =
+    ((own : List Named) × IsNamesOf text own × IsDoneNaming own task status out err)
+    ⊎ ((fault : TableFault) × IsNamesFault text fault × TellsFault name fault status out err)
+
+-- so it was by the names of one's own that it names, or else by none
 abbrev pub IsDone : Task → ℕ → Turn → Turn → Type 0
 IsDone task status out err =
-    MatchOption (table_of task) (IsDoneBy the_table task status out err)
-    (λ name. IsDoneByName name task status out err)
+    MatchOption (names_of task) (IsDoneNaming [] task status out err)
+    (λ name. IsDoneByFile (IsDoneByNames name task) name status out err)
 
 -- standard input is asked for twice: that is told, and nothing is opened
 pub record AsksInputTwice (task : Task) (status : ℕ) (out err : Turn) : Type 0 where

@@ -4,11 +4,12 @@
 ghost use Rattle.std.specs.Prelude.{◌≡◌, ◌≢◌, ◌≤◌, ◌⊎◌, ℕ, IfOk, List, codes, false, map, true};
 ghost use Rattle.std.specs.IoError.{error_kind};
 ghost use Rattle.j39_io.specs.Turn.{Turn, turn};
+ghost use Rattle.j39_names.specs.Naming.{naming_of};
 ghost use Rattle.j39_table.specs.declared.fault.TableFault.{TableFault};
 ghost use Rattle.j39_cli.specs.OwnTable.{table_line};
 ghost use Rattle.j39_cli.specs.Refusal.{IsWrongLine, error_line, folder_line};
 ghost use Rattle.j39_cli.specs.Tells.{Tells};
-ghost use Rattle.j1939.specs.Done.{Follows, IsDone, IsDoneBy, IsDoneByText, IsDoneOnce};
+ghost use Rattle.j1939.specs.Done.{Follows, IsDone, IsDoneBy, IsDoneByNames, IsDoneByText, IsDoneNaming, IsDoneOnce};
 
 mod input;
 mod table;
@@ -21,13 +22,14 @@ use j39_cli::{
 };
 use j39_groups::Groups;
 use j39_io::{Sink, Told};
-use j39_table::{TableFault, read};
+use j39_names::{Named, Naming};
+use j39_table::{TableFault, read, read_names};
 use std::convert::AsStr;
 use std::io::{BufWriter, ErrorKind};
 use std::process::ExitCode;
 use std::{env, fs, io};
-use table::table_text;
-use terminal::add_size;
+use table::{names_text, table_text};
+use terminal::add_terminal;
 
 /// The bytes that are kept before they are written.
 const OUT_BUFFER: usize = 65_536;
@@ -72,7 +74,7 @@ fn answer<E: Sink>(rt: &HostRuntime, err: &mut E) -> io::Result<u8>
     for word in env::args(rt)? {
         words.push(word)?;
     }
-    add_size(rt, &mut words)?;
+    add_terminal(rt, &mut words)?;
     let out = BufWriter::with_capacity(rt.alloc(), OUT_BUFFER, rt.stdout())?;
     Ok(follow(rt, words.as_slice(), &mut Told::new(out), err))
 }
@@ -100,7 +102,7 @@ fn follow<S: AsStr, W: Sink, E: Sink>(rt: &HostRuntime, words: &[S], out: &mut W
     }
 }
 
-/// Performs a task by its table, or by the built-in one.
+/// Performs a task by its names of one's own, or by none.
 fn done<W: Sink, E: Sink>(rt: &HostRuntime, task: &Task<'_>, out: &mut W, err: &mut E) -> u8
     ensures status { result ≤ 2 }
     ensures done { IsDone task.now result
@@ -108,16 +110,61 @@ fn done<W: Sink, E: Sink>(rt: &HostRuntime, task: &Task<'_>, out: &mut W, err: &
     ensures flushed { result ≡ 0 → W.is_flushed out.new ≡ true }
     ensures passed_on { (result ≡ 0 → ⊥) → E.has_failed err.new ≡ false → E.is_flushed err.new ≡ true }
 {
-    let Some(name) = task.table() else {
-        return by_rows(rt, task, &Groups::built_in(), out, err);
+    let Some(name) = task.names() else {
+        return by_table(rt, task, &[], out, err);
     };
-    match table_text(rt, name) {
-        Ok(text) => by_text(rt, task, name, text.as_slice(), out, err),
+    match names_text(rt, name) {
+        Ok(text) => by_names(rt, task, name, text.as_slice(), out, err),
         Err(error) => unread(name, &error, err),
     }
 }
 
-/// Says why a table can't be read, and answers the exit status.
+/// Performs a task by the names that a text says, or says why it says none.
+fn by_names<W: Sink, E: Sink>(
+    rt: &HostRuntime,
+    task: &Task<'_>,
+    name: &str,
+    text: &[u8],
+    out: &mut W,
+    err: &mut E,
+) -> u8
+    ensures status { result ≤ 2 }
+    ensures done { IsDoneByNames name.now task.now text.now result
+        (turn W.written W.has_failed out.old out.new) (turn E.written E.has_failed err.old err.new) }
+    ensures flushed { result ≡ 0 → W.is_flushed out.new ≡ true }
+    ensures passed_on { (result ≡ 0 → ⊥) → E.has_failed err.new ≡ false → E.is_flushed err.new ≡ true }
+{
+    match read_names(rt.alloc(), text) {
+        Ok(own) => by_table(rt, task, own.as_slice(), out, err),
+        Err(fault) => wrong_table(name, fault, err),
+    }
+}
+
+/// Performs a task by these names and its table, or the built-in one.
+fn by_table<W: Sink, E: Sink>(
+    rt: &HostRuntime,
+    task: &Task<'_>,
+    own: &[Named<'_>],
+    out: &mut W,
+    err: &mut E,
+) -> u8
+    ensures status { result ≤ 2 }
+    ensures done { IsDoneNaming own.now task.now result
+        (turn W.written W.has_failed out.old out.new) (turn E.written E.has_failed err.old err.new) }
+    ensures flushed { result ≡ 0 → W.is_flushed out.new ≡ true }
+    ensures passed_on { (result ≡ 0 → ⊥) → E.has_failed err.new ≡ false → E.is_flushed err.new ≡ true }
+{
+    let Some(name) = task.table() else {
+        let groups = &Groups::built_in();
+        return by_rows(rt, task, &Naming { own, groups }, out, err);
+    };
+    match table_text(rt, name) {
+        Ok(text) => by_text(rt, task, own, name, text.as_slice(), out, err),
+        Err(error) => unread(name, &error, err),
+    }
+}
+
+/// Says why a table or names can't be read, and answers the exit status.
 fn unread<E: Sink>(name: &str, error: &io::Error, err: &mut E) -> u8
     ensures status { result ≡ 1 }
     ensures memory { error_kind error.now ≡ ErrorKind.OutOfMemory
@@ -140,58 +187,62 @@ fn unread<E: Sink>(name: &str, error: &io::Error, err: &mut E) -> u8
     }
 }
 
-/// Performs a task by the table that a text says, or says why it says none.
+/// Performs a task by these names and the table that a text says, or says why it says none.
 fn by_text<W: Sink, E: Sink>(
     rt: &HostRuntime,
     task: &Task<'_>,
+    own: &[Named<'_>],
     name: &str,
     text: &[u8],
     out: &mut W,
     err: &mut E,
 ) -> u8
     ensures status { result ≤ 2 }
-    ensures done { IsDoneByText name.now text.now task.now result
+    ensures done { IsDoneByText own.now name.now task.now text.now result
         (turn W.written W.has_failed out.old out.new) (turn E.written E.has_failed err.old err.new) }
     ensures flushed { result ≡ 0 → W.is_flushed out.new ≡ true }
     ensures passed_on { (result ≡ 0 → ⊥) → E.has_failed err.new ≡ false → E.is_flushed err.new ≡ true }
 {
     match read(rt.alloc(), text) {
-        Ok(groups) => by_rows(rt, task, &groups, out, err),
+        Ok(groups) => {
+            let groups = &groups;
+            by_rows(rt, task, &Naming { own, groups }, out, err)
+        }
         Err(fault) => wrong_table(name, fault, err),
     }
 }
 
-/// Performs a task by this table, where it has a row of a parameter that is asked for, and says which have none.
+/// Performs a task by these names, where their table has a row of a parameter that is asked for, and says which have none.
 fn by_rows<W: Sink, E: Sink>(
     rt: &HostRuntime,
     task: &Task<'_>,
-    groups: &Groups<'_>,
+    naming: &Naming<'_, '_>,
     out: &mut W,
     err: &mut E,
 ) -> u8
     ensures status { result ≤ 2 }
-    ensures done { IsDoneBy groups.now task.now result
+    ensures done { IsDoneBy (naming_of naming.now) task.now result
         (turn W.written W.has_failed out.old out.new) (turn E.written E.has_failed err.old err.new) }
     ensures flushed { result ≡ 0 → W.is_flushed out.new ≡ true }
     ensures passed_on { (result ≡ 0 → ⊥) → E.has_failed err.new ≡ false → E.is_flushed err.new ≡ true }
 {
-    if asks_for_unknown(groups, task, err) {
+    if asks_for_unknown(naming.groups, task, err) {
         2
     } else {
-        over(rt, task, groups, out, err)
+        over(rt, task, naming, out, err)
     }
 }
 
-/// Performs a task by this table, over its FILEs or over standard input.
+/// Performs a task by these names, over its FILEs or over standard input.
 fn over<W: Sink, E: Sink>(
     rt: &HostRuntime,
     task: &Task<'_>,
-    groups: &Groups<'_>,
+    naming: &Naming<'_, '_>,
     out: &mut W,
     err: &mut E,
 ) -> u8
     ensures status { (result ≡ 0) ⊎ (result ≡ 1) }
-    ensures done { IsDoneOnce groups.now task.now result
+    ensures done { IsDoneOnce (naming_of naming.now) task.now result
         (turn W.written W.has_failed out.old out.new) (turn E.written E.has_failed err.old err.new) }
     ensures flushed { result ≡ 0 → W.is_flushed out.new ≡ true }
     ensures passed_on { result ≡ 1 → E.has_failed err.new ≡ false → E.is_flushed err.new ≡ true }
@@ -200,7 +251,7 @@ fn over<W: Sink, E: Sink>(
         Ok(logs) => {
             tell_files(logs.seen.as_slice(), err);
             let mut log = Joined::new(logs.first, logs.later);
-            perform_with(rt.alloc(), groups, task, &mut log, out, err)
+            perform_with(rt.alloc(), naming, task, &mut log, out, err)
         }
         Err(Unopened::File(file)) => unopened(file, err),
         Err(Unopened::Folder(file)) => not_a_file(file, err),

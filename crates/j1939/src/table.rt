@@ -1,4 +1,4 @@
-//! The file of a table of parameters: where it is found, and its text.
+//! The files of a table of parameters, where it is found, and of names: their texts.
 ghost use Rattle.std.specs.Prelude.{◌≡◌, ◌==◌, ◌++◌, ◌||◌, IfOk, codes, string_bytes};
 ghost use Rattle.std.specs.List.{list_any};
 
@@ -20,10 +20,18 @@ pub(crate) fn table_text(rt: &HostRuntime, name: &str) -> io::Result<Vec<u8>> {
     } else {
         open_shipped(rt, name)?
     };
-    let file = match shipped {
-        Some(file) => file,
-        None => fs::open(rt, name)?,
-    };
+    match shipped {
+        Some(file) => text_of(rt, file),
+        None => names_text(rt, name),
+    }
+}
+
+/// The text of a file of names; of a longer one than names have, one byte too many.
+pub(crate) fn names_text(rt: &HostRuntime, name: &str) -> io::Result<Vec<u8>> {
+    text_of(rt, fs::open(rt, name)?)
+}
+
+fn text_of(rt: &HostRuntime, file: File) -> io::Result<Vec<u8>> {
     let mut text = Vec::new(rt.alloc());
     file.take(MOST_BYTES as u64 + 1).read_to_end(&mut text)?;
     Ok(text)

@@ -13,6 +13,7 @@ use Rattle.j39_groups.specs.Ranges.{is_valid, top_byte}
 use Rattle.j39_groups.specs.Readings.{bits_meaning, by_top_byte, filled_text_meaning, full_value, group_rows, number_meaning, raw_bits, raw_number, readings_at, readings_in, readings_of, switch_meaning, text_meaning, values_at}
 use Rattle.j39_groups.specs.Row.{FieldRecord, number_field, bits_field, full_field, switch_field, text_field, texts_field, RowRecord}
 use Rattle.j39_groups.specs.Table.{the_table}
+use Rattle.j39_groups.specs.ValueText.{unit_of}
 use Rattle.j39_groups.specs.Value.{SlotRecord, ReadingRecord, ValueRecord, number, on, off, error, reserved, indicator, text}
 use Rattle.j39_c.specs.Units.{has_short_unit}
 
@@ -153,3 +154,14 @@ reading_is_short pgn bytes i reading found =
     let readings = readings_of pgn bytes in
     subst (λ r. has_short_reading r ≡ true) (get_or_from_slice_get readings i reading reading found)
     (AllPass-from_list_all has_short_reading readings (readings_are_short pgn bytes) i reading (slice_get_within readings i reading found))
+
+-- by the value's unit
+pub unit_is_short : (value : ValueRecord) → nat_le (length (unit_of value)) 7 ≡ has_short_unit value
+unfolding unit_of
+unit_is_short (number n slot) = refl
+unit_is_short on = refl
+unit_is_short off = refl
+unit_is_short error = refl
+unit_is_short reserved = refl
+unit_is_short indicator = refl
+unit_is_short (text bytes) = refl

@@ -11,6 +11,7 @@ pub mod HandleOwns
 pub mod Holders
 pub mod Messages
 pub mod Nodes
+pub mod OwnTables
 pub mod Parts
 pub mod Readings
 pub mod Units

@@ -1,8 +1,11 @@
 -- Readings as C has them.
-use Rattle.std.specs.Prelude.{◌≡◌, ◌<◌, ◌≤◌, ◌^◌, ◌++◌, ◌-◌, ◌⊎◌, ℕ, zero, suc, ℤ, pos, negsuc, List, [], Option, Some, None, length, replicate, slice_get, take}
-use Rattle.j39_groups.specs.Readings.{readings_of}
+use Rattle.std.specs.Prelude.{◌≡◌, ◌<◌, ◌≤◌, ◌^◌, ◌++◌, ◌-◌, ◌⊎◌, ℕ, zero, suc, ℤ, pos, negsuc, List, [], Option, Some, None, true, false, length, replicate, slice_get, take}
+use Rattle.j39_groups.specs.Readings.{readings_in}
+use Rattle.j39_groups.specs.Row.{RowRecord}
+use Rattle.j39_groups.specs.Table.{the_table}
 use Rattle.j39_groups.specs.Value.{ReadingRecord, ValueRecord, number, on, off, error, reserved, indicator, text}
-use Rattle.j39_c.specs.Codes.{end}
+use Rattle.j39_c.specs.Codes.{end, no_room}
+use Rattle.j39_c.specs.Units.{has_short_unit}
 use Rattle.j39_c.specs.declared.message.WholeMessage.{WholeMessage}
 use Rattle.j39_c.specs.declared.reading.PlainReading.{PlainReading}
 
@@ -16,9 +19,13 @@ pub record IsReportable (m : WholeMessage) : Type 0 where
   pub readable : IsReadable m
   pub micros : m.micros < 10 ^ 16
 
--- its reading of this number, from 0 on, by the built-in table
+-- its reading of this number, from 0 on, by a table
+abbrev pub reading_by : List RowRecord → WholeMessage → ℕ → Option ReadingRecord
+reading_by table m index = slice_get (readings_in table m.pgn (take m.len m.data)) index
+
+-- the same, by the built-in one
 abbrev pub reading_in : WholeMessage → ℕ → Option ReadingRecord
-reading_in m index = slice_get (readings_of m.pgn (take m.len m.data)) index
+reading_in m index = reading_by the_table m index
 
 -- a text, filled up with zeros to eight bytes
 abbrev pub IsFilled : List ℕ → List ℕ → Type 0
@@ -40,6 +47,11 @@ IsPlainValue p (text bytes) = IsOfKind p 6
 
 abbrev pub IsPlain : PlainReading → ReadingRecord → Type 0
 IsPlain p reading = (p.spn ≡ reading.spn) × IsPlainValue p reading.value
+
+-- such a reading; one whose unit is too long has no room
+pub record IsPlainAnswer (p : PlainReading) (reading : ReadingRecord) (code : ℤ) : Type 0 where
+  pub told : has_short_unit reading.value ≡ true → (code ≡ pos 0) × IsPlain p reading
+  pub long : has_short_unit reading.value ≡ false → code ≡ no_room
 
 -- a text stands at the front of a buffer, and its length is answered; or memory was refused, or it has no room there
 pub record IsTold (wanted : List ℕ) (n : ℕ) (buffer : List ℕ) : Type 0 where

@@ -24,6 +24,7 @@ mod receiver;
 mod refusal;
 mod report_line;
 mod sender;
+mod table;
 mod taking;
 
 pub use assembler::{j39_assembler_feed, j39_assembler_forget, j39_assembler_new};
@@ -62,6 +63,9 @@ pub use reading::{PlainReading, j39_raw_of, j39_reading, j39_reading_text};
 pub use receiver::{j39_receiver_busy, j39_receiver_new, j39_receiver_on, j39_receiver_tick};
 pub use report_line::j39_report_line;
 pub use sender::{j39_sender_new, j39_sender_on, j39_sender_state, j39_sender_tick};
+pub use table::{
+    PlainWrong, j39_reading_by, j39_reading_text_by, j39_report_line_by, j39_table_check,
+};
 pub use taking::{
     j39_controller_take_ended, j39_controller_take_received, j39_controller_take_request,
 };

@@ -77,10 +77,7 @@ pub extern "C" fn j39_reading_text(
     let (Some(pgn), Some(payload)) = (Pgn::new(message.pgn), payload_of(message)) else {
         return Refusal::BadValue.code();
     };
-    let Some(found) = reading_at(pgn, payload, index) else {
-        return Refusal::End.code();
-    };
-    put_text(alloc, &found.value, text)
+    put_text(alloc, reading_at(pgn, payload, index), text)
 }
 
 /// The bytes of a message; `None` for one that says too many.
@@ -91,8 +88,15 @@ pub(crate) fn payload_of(message: &WholeMessage) -> Option<&[u8]>
     message.data.get(..usize::from(message.len))
 }
 
+/// Whether a value's unit has its place in `PlainReading`.
+pub(crate) fn has_short_unit(value: &Value<'_, '_>) -> bool
+    ensures { result ≡ has_short_unit (value_of value.now) }
+{
+    value.unit().len() <= 7
+}
+
 /// A reading in plain numbers.
-fn plain(reading: &Reading<'_, '_>) -> PlainReading
+pub(crate) fn plain(reading: &Reading<'_, '_>) -> PlainReading
     requires { has_short_unit (value_of reading.now.value) ≡ true }
     ensures { IsPlain result (reading_of reading.now) }
 {
@@ -138,13 +142,17 @@ fn unit_of(scale: Slot<'_>) -> [u8; 8]
     unit
 }
 
-/// Writes out a value's text, and answers its length.
-fn put_text(alloc: Global, value: &Value<'_, '_>, text: &mut [u8]) -> i32
-    ensures text { IsTextAnswer (length text.old) (value_text (value_of value.now)) result text.new }
-    ensures answers { Answers (length text.old) (no_memory ∷ no_room ∷ []) result }
+/// Writes out the text of the value that is picked, and answers its length; -6 where none is.
+pub(crate) fn put_text(alloc: Global, picked: Option<Reading<'_, '_>>, text: &mut [u8]) -> i32
+    ensures text { IfSome picked.entry (λ reading. IsTextAnswer (length text.old) (value_text (value_of reading.value)) result text.new) }
+    ensures behind { picked.entry ≡ None → result ≡ end }
+    ensures answers { Answers (length text.old) (no_memory ∷ no_room ∷ end ∷ []) result }
     ensures fills { FillsFront result text.old text.new }
 {
-    match text_of(alloc, value) {
+    let Some(found) = picked else {
+        return Refusal::End.code();
+    };
+    match text_of(alloc, &found.value) {
         Ok(made) => copy(made.as_slice(), text),
         Err(refusal) => refusal.code(),
     }

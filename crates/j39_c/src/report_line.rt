@@ -55,7 +55,7 @@ pub extern "C" fn j39_report_line(
 }
 
 /// Writes out the line of a reading, and answers its length.
-fn put_report(
+pub(crate) fn put_report(
     alloc: Global,
     moment: Stamp,
     message: &WholeMessage,

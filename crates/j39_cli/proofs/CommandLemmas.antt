@@ -52,12 +52,12 @@ is_read program (grid every texts) =
     parsed_choices program grid_app (grid every texts) (before_each (form_of (grid every texts)).arguments) file_rule texts.file (takes_file refl)
     (record { choices = tt; known = refl; apart = refl; defaults = refl; none_by_default = refl; first = refl; valid = λ rows. refl })
     (record { step = refl; passes = refl; found = refl; checks = refl }) refl refl
-is_read program (faults conversion all changes now texts) =
-    parsed_choices program faults_app (faults conversion all changes now texts) (before_each (form_of (faults conversion all changes now texts)).arguments) file_rule texts.file (takes_file refl)
+is_read program (faults names conversion all changes now texts) =
+    parsed_choices program faults_app (faults names conversion all changes now texts) (before_each (form_of (faults names conversion all changes now texts)).arguments) file_rule texts.file (takes_file refl)
     (record { choices = tt; known = refl; apart = refl; defaults = refl; none_by_default = refl; first = refl; valid = λ rows. refl })
     (record { step = refl; passes = refl; found = refl; checks = refl }) refl refl
-is_read program (nodes bus from seen silent csv json utc file) =
-    parsed_choices program nodes_app (nodes bus from seen silent csv json utc file) (before_each (form_of (nodes bus from seen silent csv json utc file)).arguments) file_rule file (takes_file refl)
+is_read program (nodes bus names from seen silent head csv json utc file) =
+    parsed_choices program nodes_app (nodes bus names from seen silent head csv json utc file) (before_each (form_of (nodes bus names from seen silent head csv json utc file)).arguments) file_rule file (takes_file refl)
     (record { choices = tt; known = refl; apart = refl; defaults = refl; none_by_default = refl; first = refl; valid = λ rows. refl })
     (record { step = refl; passes = refl; found = refl; checks = refl }) refl refl
 is_read program (answer node address bus file) = parsed_each program answer_app (answer node address bus file)
@@ -73,11 +73,11 @@ is_read program (cut source pgn moment bus hex) = parsed program cut_app (cut so
     (record { step = refl; passes = refl; found = refl; checks = refl }) refl refl
 is_read program (groups table) = parsed program groups_app (groups table) [] (form_of (groups table)).arguments refl
     (record { step = refl; passes = refl; found = refl; checks = refl }) refl refl
-is_read program (survey bus table csv json utc file) =
-    parsed_choices program survey_app (survey bus table csv json utc file) (before_each (form_of (survey bus table csv json utc file)).arguments) file_rule file (takes_file refl)
+is_read program (survey bus table names csv json utc file) =
+    parsed_choices program survey_app (survey bus table names csv json utc file) (before_each (form_of (survey bus table names csv json utc file)).arguments) file_rule file (takes_file refl)
     (record { choices = tt; known = refl; apart = refl; defaults = refl; none_by_default = refl; first = refl; valid = λ rows. refl })
     (record { step = refl; passes = refl; found = refl; checks = refl }) refl refl
-is_read program (watch bus table asked rows width file) =
-    parsed_choices program watch_app (watch bus table asked rows width file) (before_each (form_of (watch bus table asked rows width file)).arguments) file_rule file (takes_file refl)
+is_read program (watch bus table names asked rows width colour utc file) =
+    parsed_choices program watch_app (watch bus table names asked rows width colour utc file) (before_each (form_of (watch bus table names asked rows width colour utc file)).arguments) file_rule file (takes_file refl)
     (record { choices = tt; known = refl; apart = refl; defaults = refl; none_by_default = refl; first = refl; valid = λ rows. refl })
     (record { step = refl; passes = refl; found = refl; checks = refl }) refl refl

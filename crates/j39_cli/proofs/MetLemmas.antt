@@ -12,8 +12,7 @@ use Rattle.j39_cli.specs.Asked.{AskedTexts, asked_arguments, asked_found}
 use Rattle.j39_cli.specs.CommandWords as command
 use Rattle.j39_cli.specs.CommandWords.{CommandWords, HasTexts, IsAnswer, Tells, command_found, form_of}
 use Rattle.j39_cli.specs.Form.{ArgumentText, HasText, HaveTexts, flag, option, text_found, texts_found, texts_of, value, values}
-use Rattle.j39_cli.specs.LogCommand.{log_arguments}
-use Rattle.j39_cli.specs.RowOptions.{RowTexts, rows_found}
+use Rattle.j39_cli.specs.RowOptions.{RowTexts, headed_arguments, rows_found}
 use Rattle.j39_cli.specs.Rules.{is_given}
 
 name_of_met : (m : ArgMatches) → option_map (λ met. met.0) (subcommand_rows_of m) ≡ subcommand_name_of m
@@ -99,47 +98,48 @@ asked_are_found texts others found are = (
 )
 
 rows_are_found : (texts : RowTexts) (found : Found) → first_value found (codes "bus") ≡ texts.bus → first_value found (codes "table") ≡ texts.table
-    → texts.asked ≡ asked_found found → AreFound found (log_arguments texts.csv texts.json texts.utc texts.file) → texts ≡ rows_found found
+    → texts.asked ≡ asked_found found → AreFound found (headed_arguments texts) → texts ≡ rows_found found
 rows_are_found texts found bus table asked log = λ i. record {
   bus = sym bus i;
   table = sym table i;
   asked = asked i;
-  csv = sym log.0 i;
-  json = sym log.1.0 i;
-  utc = sym log.1.1.0 i;
-  file = sym log.1.1.1.0 i;
+  head = sym log.0 i;
+  csv = sym log.1.0 i;
+  json = sym log.1.1.0 i;
+  utc = sym log.1.1.1.0 i;
+  file = sym log.1.1.1.1.0 i;
 }
 
 -- a command is that of its name whose texts are found
 is_command_found : (s : CommandWords) (found : Found) → AreFound found (form_of s).arguments
     → s ≡ command_found (form_of s).called found
 is_command_found (command.report texts) found are =
-    let asked = asked_are_found texts.asked (log_arguments texts.csv texts.json texts.utc texts.file) found are.1.1 in
+    let asked = asked_are_found texts.asked (headed_arguments texts) found are.1.1 in
     ap command.report (rows_are_found texts found are.0 are.1.0 asked.0 asked.1)
 is_command_found (command.summary texts) found are =
-    let asked = asked_are_found texts.asked (log_arguments texts.csv texts.json texts.utc texts.file) found are.1.1 in
+    let asked = asked_are_found texts.asked (headed_arguments texts) found are.1.1 in
     ap command.summary (rows_are_found texts found are.0 are.1.0 asked.0 asked.1)
 is_command_found (command.grid every texts) found are =
-    let asked = asked_are_found texts.asked (log_arguments texts.csv texts.json texts.utc texts.file) found are.1.1.1 in
+    let asked = asked_are_found texts.asked (headed_arguments texts) found are.1.1.1 in
     let rows = rows_are_found texts found are.1.0 are.1.1.0 asked.0 asked.1 in
     λ i. command.grid (sym are.0 i) (rows i)
-is_command_found (command.faults conversion all changes now texts) found are =
-    let flags = flag (codes "all") all ∷ flag (codes "changes") changes ∷ flag (codes "now") now ∷ log_arguments texts.csv texts.json texts.utc texts.file in
-    let asked = asked_are_found texts.asked flags found are.1.1.1 in
+is_command_found (command.faults names conversion all changes now texts) found are =
+    let flags = flag (codes "all") all ∷ flag (codes "changes") changes ∷ flag (codes "now") now ∷ headed_arguments texts in
+    let asked = asked_are_found texts.asked flags found are.1.1.1.1 in
     let told = asked.1 in
     let rows = rows_are_found texts found are.0 are.1.0 asked.0 told.1.1.1 in
-    λ i. command.faults (sym are.1.1.0 i) (sym told.0 i) (sym told.1.0 i) (sym told.1.1.0 i) (rows i)
-is_command_found (command.nodes bus from seen silent csv json utc file) found are = cc
+    λ i. command.faults (sym are.1.1.0 i) (sym are.1.1.1.0 i) (sym told.0 i) (sym told.1.0 i) (sym told.1.1.0 i) (rows i)
+is_command_found (command.nodes bus names from seen silent head csv json utc file) found are = cc
 is_command_found (command.answer node address bus file) found are =
     cc (is_text_found found (codes "name") node are.0, is_text_found found (codes "address") address are.1.0)
 is_command_found (command.id hex) found are = cc (is_text_found found (codes "hex") hex are.0)
 is_command_found (command.name hex) found are = cc (is_text_found found (codes "hex") hex are.0)
 is_command_found (command.groups table) found are = cc
-is_command_found (command.survey bus table csv json utc file) found are = cc
-is_command_found (command.watch bus table asked rows width file) found are =
-    let others = option (codes "rows") rows ∷ option (codes "width") width ∷ values (codes "file") file ∷ [] in
-    let its = asked_are_found asked others found are.1.1 in
-    λ i. command.watch (sym are.0 i) (sym are.1.0 i) (its.0 i) (sym its.1.0 i) (sym its.1.1.0 i) (sym its.1.1.1.0 i)
+is_command_found (command.survey bus table names csv json utc file) found are = cc
+is_command_found (command.watch bus table names asked rows width colour utc file) found are =
+    let others = option (codes "rows") rows ∷ option (codes "width") width ∷ flag (codes "colour") colour ∷ flag (codes "utc") utc ∷ values (codes "file") file ∷ [] in
+    let its = asked_are_found asked others found are.1.1.1 in
+    λ i. command.watch (sym are.0 i) (sym are.1.0 i) (sym are.1.1.0 i) (its.0 i) (sym its.1.0 i) (sym its.1.1.0 i) (sym its.1.1.1.0 i) (sym its.1.1.1.1.0 i) (sym its.1.1.1.1.1.0 i)
 is_command_found (command.cut source pgn moment bus hex) found are =
     cc (
       is_text_found found (codes "source") source are.0,

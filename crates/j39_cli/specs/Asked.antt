@@ -128,7 +128,7 @@ asked_arguments texts =
 abbrev pub asked_checks : AskedTexts → List Check
 asked_checks texts =
     value_check IsSpnList argument.Spn texts.spn ∷ value_check IsSenderList argument.From texts.from
-    ∷ value_check IsAddressList argument.To texts.to ∷ value_check IsPgnList argument.Pgn texts.pgn
+    ∷ value_check IsAddressList argument.To texts.to ∷ value_check IsPgnList argument.Pgns texts.pgn
     ∷ value_check IsMoment argument.Since texts.since ∷ value_check IsMoment argument.Until texts.until ∷ []
 
 -- the filter of it, which speaks of no parameter

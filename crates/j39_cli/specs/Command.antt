@@ -23,17 +23,17 @@ bare_app = on_top (λ s. record s { subcommand_required = true; has_version = tr
 abbrev pub command_apps : List App
 command_apps =
     report_app
+    ∷ faults_app
     ∷ summary_app
     ∷ grid_app
+    ∷ watch_app
+    ∷ nodes_app
+    ∷ survey_app
+    ∷ answer_app
+    ∷ groups_app
     ∷ id_app
     ∷ name_app
     ∷ cut_app
-    ∷ nodes_app
-    ∷ answer_app
-    ∷ groups_app
-    ∷ faults_app
-    ∷ survey_app
-    ∷ watch_app
     ∷ []
 
 unfoldable pub line_app : App

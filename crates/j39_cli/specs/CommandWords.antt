@@ -28,29 +28,29 @@ pub data CommandWords : Type 0 where
   report : RowTexts → CommandWords
   summary : RowTexts → CommandWords
   grid : Option Text → RowTexts → CommandWords
-  faults : Option Text → Bool → Bool → Bool → RowTexts → CommandWords
-  nodes : Option Text → Option Text → Bool → Option Text → Bool → Bool → Bool → List Text → CommandWords
+  faults : Option Text → Option Text → Bool → Bool → Bool → RowTexts → CommandWords
+  nodes : Option Text → Option Text → Option Text → Bool → Option Text → Bool → Bool → Bool → Bool → List Text → CommandWords
   answer : Text → Text → Option Text → List Text → CommandWords
   id : Text → CommandWords
   name : Text → CommandWords
   cut : Text → Text → Text → Text → Text → CommandWords
   groups : Option Text → CommandWords
-  survey : Option Text → Option Text → Bool → Bool → Bool → List Text → CommandWords
-  watch : Option Text → Option Text → AskedTexts → Option Text → Option Text → List Text → CommandWords
+  survey : Option Text → Option Text → Option Text → Bool → Bool → Bool → List Text → CommandWords
+  watch : Option Text → Option Text → Option Text → AskedTexts → Option Text → Option Text → Bool → Bool → List Text → CommandWords
 
 abbrev pub form_of : CommandWords → Form
 form_of (report texts) = report_form texts
 form_of (summary texts) = summary_form texts
 form_of (grid every texts) = grid_form every texts
-form_of (faults conversion all changes now texts) = faults_form conversion all changes now texts
-form_of (nodes bus from seen silent csv json utc file) = nodes_form bus from seen silent csv json utc file
+form_of (faults names conversion all changes now texts) = faults_form names conversion all changes now texts
+form_of (nodes bus names from seen silent head csv json utc file) = nodes_form bus names from seen silent head csv json utc file
 form_of (answer node address bus file) = answer_form node address bus file
 form_of (id hex) = id_form hex
 form_of (name hex) = name_form hex
 form_of (cut source pgn at bus hex) = cut_form source pgn at bus hex
 form_of (groups table) = groups_form table
-form_of (survey bus table csv json utc file) = survey_form bus table csv json utc file
-form_of (watch bus table asked rows width file) = watch_form bus table asked rows width file
+form_of (survey bus table names csv json utc file) = survey_form bus table names csv json utc file
+form_of (watch bus table names asked rows width colour utc file) = watch_form bus table names asked rows width colour utc file
 
 -- the words after the program's name
 abbrev pub words_of : CommandWords → List Text
@@ -68,16 +68,17 @@ abbrev pub command_found : Text → Found → CommandWords
 command_found called found =
     let bus = first_value found (codes "bus") in
     let table = first_value found (codes "table") in
+    let names = first_value found (codes "names") in
     let file = texts_found found (codes "file") in
     if bytes_eq called (codes "report") then report (rows_found found)
     else if bytes_eq called (codes "summary") then summary (rows_found found)
     else if bytes_eq called (codes "grid") then grid (first_value found (codes "every")) (rows_found found)
     else if bytes_eq called (codes "faults") then
-    faults (first_value found (codes "conversion")) (is_given (first_value found (codes "all")))
+    faults names (first_value found (codes "conversion")) (is_given (first_value found (codes "all")))
     (is_given (first_value found (codes "changes"))) (is_given (first_value found (codes "now"))) (rows_found found)
     else if bytes_eq called (codes "nodes") then
-    nodes bus (first_value found (codes "from")) (is_given (first_value found (codes "seen"))) (first_value found (codes "silent"))
-    (is_given (first_value found (codes "csv"))) (is_given (first_value found (codes "json")))
+    nodes bus names (first_value found (codes "from")) (is_given (first_value found (codes "seen"))) (first_value found (codes "silent"))
+    (is_given (first_value found (codes "head"))) (is_given (first_value found (codes "csv"))) (is_given (first_value found (codes "json")))
     (is_given (first_value found (codes "utc"))) file
     else if bytes_eq called (codes "answer") then
     answer (text_found found (codes "name")) (text_found found (codes "address")) bus file
@@ -85,10 +86,11 @@ command_found called found =
     else if bytes_eq called (codes "name") then name (text_found found (codes "hex"))
     else if bytes_eq called (codes "groups") then groups table
     else if bytes_eq called (codes "survey") then
-    survey bus table (is_given (first_value found (codes "csv"))) (is_given (first_value found (codes "json")))
+    survey bus table names (is_given (first_value found (codes "csv"))) (is_given (first_value found (codes "json")))
     (is_given (first_value found (codes "utc"))) file
     else if bytes_eq called (codes "watch") then
-    watch bus table (asked_found found) (first_value found (codes "rows")) (first_value found (codes "width")) file
+    watch bus table names (asked_found found) (first_value found (codes "rows")) (first_value found (codes "width"))
+    (is_given (first_value found (codes "colour"))) (is_given (first_value found (codes "utc"))) file
     else cut (text_found found (codes "source")) (text_found found (codes "pgn")) (text_found found (codes "at"))
     (text_found found (codes "bus")) (text_found found (codes "hex"))
 

@@ -5,6 +5,7 @@ use Rattle.j39_io.specs.Turn.{Turn}
 use Rattle.clap.specs.Words.{Row, Text, all_of, first_of, first_value, matched_of, raw_values}
 use Rattle.clap.specs.declared.parser.matches.Found.{Found}
 use Rattle.j39_groups.specs.Row.{RowRecord}
+use Rattle.j39_names.specs.Naming.{NamingRecord}
 use Rattle.j39_cli.specs.Answer.{Check}
 use Rattle.j39_cli.specs.Rules.{is_given}
 use Rattle.j39_cli.specs.WholeText.{IsShown}
@@ -107,22 +108,26 @@ pub record Form : Type 1 where
 
 -- ---- tasks
 
--- a task with its values: each FILE, and `--table`, where they are given; whether the values are those that the command line
+-- a task with its values: each FILE, `--table` and `--names`, where they are given; the head of its lines, `--head`; whether the values are those that the command line
 -- takes; whether it reads a log; and by a table of parameters its status, and what it leaves of the reader, the writer
 -- and the error writer
 pub record Meaning : Type 1 where
   pub file : List (List ℕ)
   pub table : Option (List ℕ)
+  pub names : Option (List ℕ)
+  pub head : Option (List ℕ)
   pub InRange : Type 0
   pub reads_log : Bool
-  pub Performs : List RowRecord → ℕ → Turn → Turn → Turn → Type 0
+  pub Performs : NamingRecord → ℕ → Turn → Turn → Turn → Type 0
 
 -- a task that reads no log, and writes this text of a table
 abbrev pub shows : Type 0 → (List RowRecord → List ℕ) → Meaning
 shows InRange text = record {
   file = [];
   table = None;
+  names = None;
+  head = None;
   InRange = InRange;
   reads_log = false;
-  Performs = λ rows status log out err. IsShown (text rows) status out err;
+  Performs = λ naming status log out err. IsShown (text naming.rows) status out err;
 }

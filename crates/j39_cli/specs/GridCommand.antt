@@ -1,6 +1,7 @@
 -- The command `grid [--every S] [--bus B] [--table T] --spn SPN,.. [--from A,..] [--to A,..] [--pgn PGN,..] [--since S] [--until S]
--- [--csv | --json | --utc] [FILE]..`.
-use Rattle.std.specs.Prelude.{◌≡◌, ◌≢◌, ◌∷◌, [], ℕ, false, List, None, Option, codes, option_map, unwrap_or}
+-- [--head] [--csv | --json | --utc] [FILE]..`.
+use Rattle.std.specs.Prelude.{◌≡◌, ◌≢◌, ◌∷◌, ◌++◌, [], ℕ, false, List, None, Option, codes, decimal, option_map, unwrap_or}
+use Rattle.std.specs.List.{flat_map}
 use Rattle.clap.specs.Words.{App, Text, new_app, with_rule}
 use Rattle.j39_groups.specs.Row.{RowRecord}
 use Rattle.j39_listen.specs.Asking.{AsksForBoxes}
@@ -12,7 +13,7 @@ use Rattle.j39_cli.specs.Form.{Form, Meaning, option}
 use Rattle.j39_cli.specs.LogCommand.{IsRun, with_forms, with_log}
 use Rattle.j39_cli.specs.RowOptions.{AreOptions, RowTexts, row_arguments, row_checks, row_meaning}
 use Rattle.j39_cli.specs.RowsRun.{IsRunBy, Running}
-use Rattle.j39_cli.specs.Rules.{option_rule, with_table}
+use Rattle.j39_cli.specs.Rules.{option_rule, with_head, with_table}
 use Rattle.j39_cli.specs.Seconds.{AreSeconds, seconds_value}
 use Rattle.j39_cli.specs.declared.grid.GridOptions.{GridOptions}
 use Rattle.j39_cli.specs.declared.task.Argument.TheVariants as argument
@@ -20,7 +21,7 @@ use Rattle.j39_cli.specs.declared.task.Task.{Task}
 use Rattle.j39_cli.specs.declared.task.Task.TheVariants.{Grid}
 
 abbrev pub grid_app : App
-grid_app = with_log (with_forms (with_asked (with_table (with_rule (new_app (codes "grid")) (option_rule (codes "every") false)))))
+grid_app = with_log (with_forms (with_head (with_asked (with_table (with_rule (new_app (codes "grid")) (option_rule (codes "every") false))))))
 
 -- ---- its values
 
@@ -64,5 +65,9 @@ subject_in o rows = record {
 abbrev pub IsGridRun : GridOptions → Running
 IsGridRun o = IsRunBy (λ kept. IsRun AsksForBoxes (MakesGrid (subject_in o kept)) o.rows.input.bus) o.rows.asked.spns
 
+-- what its columns in lines are called: the parameters by their SPNs
+abbrev pub grid_columns : List ℕ → List ℕ
+grid_columns spns = codes "stamp" ++ flat_map (λ spn. codes " " ++ decimal spn) spns
+
 abbrev pub grid_meaning : GridOptions → Meaning
-grid_meaning o = row_meaning o.rows (IsGridRun o)
+grid_meaning o = row_meaning o.rows (grid_columns (unwrap_or o.rows.asked.spns [])) (IsGridRun o)

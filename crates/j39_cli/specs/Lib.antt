@@ -16,6 +16,7 @@ pub mod Task
 pub mod Refusal
 pub mod Refused
 -- the commands, each with its words, its task and what it writes
+pub mod Heads
 pub mod LogCommand
 pub mod RowOptions
 pub mod Joined

@@ -5,7 +5,7 @@ use Rattle.std.specs.Option.{ForSome}
 use Rattle.j39_io.specs.Turn.{Turn}
 use Rattle.clap.specs.Words.{App, Text, with_rule}
 use Rattle.j39_log.specs.Bus.{IsBusName}
-use Rattle.j39_groups.specs.Row.{RowRecord}
+use Rattle.j39_names.specs.Naming.{NamingRecord}
 use Rattle.j39_listen.specs.Asking.{Wanting}
 use Rattle.j39_listen.specs.Output.{Making}
 use Rattle.j39_listen.specs.Ran.{Ran}
@@ -91,12 +91,14 @@ pub record IsRun (asks : Wanting) (makes : Making) (bus : Option (List ℕ)) (st
   pub ran : Ran makes asks bus log_limit result log out
   pub told : IsTold bus result status err
 
--- the task of a run: what it asks and makes may go by a table of parameters
-abbrev pub runs : (List RowRecord → Wanting) → (List RowRecord → Making) → LogInput → Meaning
+-- the task of a run: what it asks and makes may go by names and their table of parameters
+abbrev pub runs : (NamingRecord → Wanting) → (NamingRecord → Making) → LogInput → Meaning
 runs asks makes input = record {
   file = input.file;
   table = None;
+  names = None;
+  head = None;
   InRange = ForSome input.bus IsBusName;
   reads_log = true;
-  Performs = λ rows status log out err. IsRun (asks rows) (makes rows) input.bus status log out err;
+  Performs = λ naming status log out err. IsRun (asks naming) (makes naming) input.bus status log out err;
 }

@@ -78,5 +78,9 @@ pub record IsReported (which : FilterRecord) (format : Format) (bus : Option (Li
 abbrev pub IsReportRun : RowOptions → Running
 IsReportRun o = IsRunBy (IsReported (filter_in o.asked) o.format o.input.bus) o.asked.spns
 
+-- what its columns in lines are called
+abbrev pub report_columns : List ℕ
+report_columns = codes "stamp address name pgn spn value"
+
 abbrev pub report_meaning : RowOptions → Meaning
-report_meaning o = row_meaning o (IsReportRun o)
+report_meaning o = row_meaning o report_columns (IsReportRun o)

@@ -30,6 +30,14 @@ is_given (Some text) = bytes_eq text (codes "true")
 abbrev pub with_table : App → App
 with_table command = with_rule command (option_rule (codes "table") false)
 
+-- one that tells what numbers are called takes `--names`
+abbrev pub with_names : App → App
+with_names command = with_rule command (option_rule (codes "names") false)
+
+-- one whose lines may have a head takes `--head`
+abbrev pub with_head : App → App
+with_head command = with_rule command (flag_rule (codes "head"))
+
 -- the command, where memory was found for it, is told as this, and none of its arguments goes for the commands below it
 abbrev pub IsMade : {E : Type 0} → Result Command E → App → Type 0
 IsMade made told = IfOk made (λ c. (app_of c ≡ told) × ((settings_of c).has_globals ≡ false))

@@ -1,5 +1,5 @@
 -- The command `summary`.
-use Rattle.std.specs.Prelude.{codes}
+use Rattle.std.specs.Prelude.{ℕ, List, codes}
 use Rattle.clap.specs.Words.{App}
 use Rattle.j39_reports.specs.SummaryRun.{AsksForRows, MakesSummary}
 use Rattle.j39_cli.specs.Asked.{filter_in}
@@ -26,5 +26,9 @@ abbrev pub IsSummaryRun : RowOptions → Running
 IsSummaryRun o =
     IsRunBy (λ kept. IsRun (AsksForRows (filter_in o.asked) kept) (MakesSummary o.format (filter_in o.asked) kept) o.input.bus) o.asked.spns
 
+-- what its columns in lines are called
+abbrev pub summary_columns : List ℕ
+summary_columns = codes "address name pgn spn values words absent first_stamp last_stamp least most unit first last parameter"
+
 abbrev pub summary_meaning : RowOptions → Meaning
-summary_meaning o = row_meaning o (IsSummaryRun o)
+summary_meaning o = row_meaning o summary_columns (IsSummaryRun o)

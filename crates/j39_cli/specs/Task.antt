@@ -3,8 +3,9 @@ use Rattle.std.specs.Prelude.{ℕ, Bool, List, [], ◌∷◌, Option, None, Some
 use Rattle.j39_io.specs.Turn.{Turn}
 use Rattle.j39_address.specs.Name.{name_raw}
 use Rattle.j39_frame.specs.Identifier.{id_raw}
-use Rattle.j39_groups.specs.Row.{RowRecord}
+use Rattle.j39_names.specs.Naming.{NamingRecord}
 use Rattle.j39_cli.specs.Form.{Meaning}
+use Rattle.j39_cli.specs.Heads.{IsPerformedBelow}
 use Rattle.j39_cli.specs.LogCommand.{is_input}
 use Rattle.j39_cli.specs.AnswerCommand.{answer_meaning}
 use Rattle.j39_cli.specs.CutCommand.{cut_meaning}
@@ -26,13 +27,13 @@ meaning_of (Report options) = report_meaning options
 meaning_of (Summary options) = summary_meaning options
 meaning_of (Grid options) = grid_meaning options
 meaning_of (Faults options) = faults_meaning options
-meaning_of (Nodes input from told) = nodes_meaning input from told
+meaning_of (Nodes input names from told has_head) = nodes_meaning input names from told has_head
 meaning_of (Answer name address input) = answer_meaning (name_raw name) address input
 meaning_of (Id id) = id_meaning (id_raw id)
 meaning_of (Name name) = name_meaning (name_raw name)
 meaning_of (Cut outgoing) = cut_meaning outgoing
 meaning_of (Groups table) = groups_meaning table
-meaning_of (Survey input table format) = survey_meaning input table format
+meaning_of (Survey input table names format) = survey_meaning input table names format
 meaning_of (Watch options) = watch_meaning options
 
 abbrev pub first_in : List (List ℕ) → Option (List ℕ)
@@ -55,14 +56,18 @@ asks_input_twice t = nat_lt 1 (count_by is_input (files_of t))
 abbrev pub table_of : Task → Option (List ℕ)
 table_of t = (meaning_of t).table
 
+-- the names of one's own that it names, where it may name some
+abbrev pub names_of : Task → Option (List ℕ)
+names_of t = (meaning_of t).names
+
 -- the values of a task are those that the command line takes
 abbrev pub IsInRange : Task → Type 0
 IsInRange t = (meaning_of t).InRange
 
--- by a table of parameters and the command: its status, and what it leaves of the reader, the writer and the error
--- writer
-abbrev pub IsPerformed : List RowRecord → Task → ℕ → Turn → Turn → Turn → Type 0
-IsPerformed table t status log out err = (meaning_of t).Performs table status log out err
+-- by names, their table of parameters and the command, below its head: its status, and what it leaves of the reader, the writer
+-- and the error writer
+abbrev pub IsPerformed : NamingRecord → Task → ℕ → Turn → Turn → Turn → Type 0
+IsPerformed naming t = IsPerformedBelow (meaning_of t).head ((meaning_of t).Performs naming)
 
 abbrev pub reads_log : Task → Bool
 reads_log t = (meaning_of t).reads_log

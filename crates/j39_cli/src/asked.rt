@@ -189,7 +189,7 @@ pub(crate) fn asked_value(given: &ArgMatches<'_>) -> Result<Asked, ParseFault>
     let spns = list_value::<SpnWord>(given, "spn", Argument::Spn)?;
     let from = list_value::<SenderWord>(given, "from", Argument::From)?;
     let to = list_value::<AddressWord>(given, "to", Argument::To)?;
-    let pgns = list_value::<PgnWord>(given, "pgn", Argument::Pgn)?;
+    let pgns = list_value::<PgnWord>(given, "pgn", Argument::Pgns)?;
     let since = moment_value(given, "since", Argument::Since)?;
     let until = moment_value(given, "until", Argument::Until)?;
     Ok(Asked {

@@ -3,7 +3,7 @@ ghost use Rattle.std.specs.Prelude.{◌≡◌, IfOk, false};
 ghost use Rattle.clap.specs.Words.{App, app_of, new_app, rule_of, with_rule, with_subcommand};
 ghost use Rattle.j39_cli.specs.Command.{bare_app, line_app};
 ghost use Rattle.j39_cli.specs.HexCommand.{hex_app};
-ghost use Rattle.j39_cli.specs.Rules.{IsMade, flag_rule, option_rule, value_rule, values_rule, with_table};
+ghost use Rattle.j39_cli.specs.Rules.{IsMade, flag_rule, option_rule, value_rule, values_rule, with_names, with_table};
 
 use crate::{answer, cut, faults, grid, groups, id, name, nodes, report, summary, survey, watch};
 use clap::{Arg, ArgAction, Command};
@@ -18,23 +18,23 @@ Examples:
   j1939 report --table my.table trip.log
   j1939 report --spn 190,110 --csv trip.log
   candump -L can0 | j1939 report
+  j1939 faults trip.log
   j1939 summary trip.log
   j1939 grid --every 0.5 --spn 190,110 --csv trip.log
-  j1939 faults trip.log
+  candump -L can0 | j1939 watch
   j1939 nodes trip.log
+  j1939 survey trip.log
   j1939 answer --name 8000000001401234 --address 0 trip.log
+  j1939 groups
   j1939 id 18EEFF00
   j1939 name 8000000001401234
   j1939 cut --source 0 --pgn 65260 --at 2.000000 --bus can0 \\
     3146554A4136435631324C4B31323334352A
-  j1939 groups
-  j1939 survey trip.log
-  candump -L can0 | j1939 watch
 
 Exit status:
   0  done, or help was asked for
-  1  out of memory, a read or a write failed, the log or the table can't be
-     opened or is too long, or a line of the table is wrong
+  1  out of memory, a read or a write failed, the log, the table or the names
+     can't be opened or are too long, or a line of the table or of the names is wrong
   2  the words are no command, or a value is wrong";
 
 /// The whole command line. What makes it, and each command, takes a result and hands on its error, since a `?` at each step
@@ -45,17 +45,17 @@ pub(crate) fn line<'a>(alloc: Global) -> Result<Command<'a>, AllocError>
 {
     let line = bare(alloc);
     let line = with_command(line, report::command(alloc));
+    let line = with_command(line, faults::command(alloc));
     let line = with_command(line, summary::command(alloc));
     let line = with_command(line, grid::command(alloc));
-    let line = with_command(line, id::command(alloc));
-    let line = with_command(line, name::command(alloc));
-    let line = with_command(line, cut::command(alloc));
+    let line = with_command(line, watch::command(alloc));
     let line = with_command(line, nodes::command(alloc));
+    let line = with_command(line, survey::command(alloc));
     let line = with_command(line, answer::command(alloc));
     let line = with_command(line, groups::command(alloc));
-    let line = with_command(line, faults::command(alloc));
-    let line = with_command(line, survey::command(alloc));
-    with_command(line, watch::command(alloc))
+    let line = with_command(line, id::command(alloc));
+    let line = with_command(line, name::command(alloc));
+    with_command(line, cut::command(alloc))
 }
 
 fn bare<'a>(alloc: Global) -> Result<Command<'a>, AllocError>
@@ -110,6 +110,17 @@ pub(crate) fn with_table<'a>(
 {
     let help = "The parameters to read: a file of lines as `groups` writes them, or trucks";
     with_option(alloc, command, "table", "T", false, help)
+}
+
+/// The command with `--names FILE`, which each takes that tells what numbers are called.
+pub(crate) fn with_names<'a>(
+    alloc: Global,
+    command: Result<Command<'a>, AllocError>,
+) -> Result<Command<'a>, AllocError>
+    ensures { (told : App) → IsMade command.entry told → IsMade result (with_names told) }
+{
+    let help = "Names of one's own: a file of lines such as `spn 110 coolant`";
+    with_option(alloc, command, "names", "FILE", false, help)
 }
 
 /// The command with `--name VALUE` more.

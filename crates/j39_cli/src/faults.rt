@@ -8,13 +8,15 @@ ghost use Rattle.j39_cli.specs.LogCommand.{log_limit};
 ghost use Rattle.clap.specs.Words.{first_value, found_of};
 ghost use Rattle.j39_cli.specs.CommandWords.{IsAnswered, command_found};
 ghost use Rattle.j39_cli.specs.FaultsCommand.{IsFaultsBy, asks_by, faults_app, makes_by, told_by, told_check, versions_in};
+ghost use Rattle.j39_names.specs.Naming.{naming_of};
 ghost use Rattle.j39_fault_reports.specs.Broken.{ToldFaults};
 ghost use Rattle.j39_cli.specs.Rules.{IsMade, is_given};
 
 use crate::asked::{asked_value, with_asked};
-use crate::command::{new_command, with_flag, with_option, with_table};
+use crate::command::{new_command, with_flag, with_names, with_option, with_table};
 use crate::conversions::{ConversionWord, Conversions};
 use crate::fields::fault_counts_line;
+use crate::heads::with_head;
 use crate::lists::slice_of;
 use crate::log::{LOG_LIMIT, copy_of, end_text, tell_fault, with_forms, with_log};
 use crate::options::{FaultOptions, RowOptions};
@@ -24,9 +26,9 @@ use crate::{Argument, FaultsTold, ParseFault, Task, WordText};
 use clap::{ArgMatches, Command};
 use j39_fault_reports::{Choice, FaultCounts, Telling, faults, faults_now};
 use j39_faults::Conversion;
-use j39_groups::Groups;
 use j39_io::{Sink, Source};
 use j39_listen::RunFault;
+use j39_names::Naming;
 use std::alloc::{AllocError, Global};
 
 const ABOUT: &str = "\
@@ -51,8 +53,8 @@ seconds or more (silent 47.850000). Who fell silent still stands there.
 
 The line has the time, the source address (hex), the NAME that holds it (hex, or
 dashes if no claim before tells it), the state, or what became of the code, the SPN,
-the FMI, how often it came (or -), what the table calls the parameter, and what the
-FMI means. Before the lines of a message stands one of the sender's lamps (a flashing
+the FMI, how often it came (or -), what the parameter is called, and what the FMI
+means. Before the lines of a message stands one of the sender's lamps (a flashing
 one with *), if they aren't all off; with --changes, if they changed (- if all went
 off). With --spn none does.";
 
@@ -79,6 +81,7 @@ pub(crate) fn command<'a>(alloc: Global) -> Result<Command<'a>, AllocError>
 {
     let about = "Writes the fault codes in a log";
     let command = with_table(alloc, new_command(alloc, "faults", about, ABOUT, HELP));
+    let command = with_names(alloc, command);
     let help =
         "By which version of their conversion older SPNs are read: 1, 2 or 3, of all; or NAME=1,..";
     let command = with_option(alloc, command, "conversion", "C", false, help);
@@ -90,6 +93,7 @@ pub(crate) fn command<'a>(alloc: Global) -> Result<Command<'a>, AllocError>
     let command = with_flag(alloc, command, "changes", help);
     let help = "What the last DM1 of each controller names, since when, in how many messages";
     let command = with_flag(alloc, command, "now", help);
+    let command = with_head(alloc, command);
     with_log(alloc, with_forms(alloc, command))
 }
 
@@ -98,6 +102,7 @@ pub(crate) fn task<'a>(alloc: Global, given: &ArgMatches<'a>) -> Result<Task<'a>
     ensures { IsAnswered (command_found (codes "faults") (found_of given.now)) result }
 {
     let table = given.get_str("table").map(WordText::new);
+    let names = given.get_str("names").map(WordText::new);
     let bus = bus_value(given)?;
     let conversions = list_value::<ConversionWord>(given, "conversion", Argument::Conversion)?;
     let asked = asked_value(given)?;
@@ -110,9 +115,11 @@ pub(crate) fn task<'a>(alloc: Global, given: &ArgMatches<'a>) -> Result<Task<'a>
                 table,
                 asked,
                 format,
+                has_head: is_set(given, "head"),
             };
             Ok(Task::Faults(FaultOptions {
                 rows,
+                names,
                 conversions,
                 told,
             }))
@@ -160,16 +167,16 @@ fn versions_in(conversions: &Option<Conversions>) -> &[Conversion]
     }
 }
 
-/// Performs it by a table of parameters: the faults go to `sink`, the counts or what failed to `err`.
+/// Performs it by these names: the faults go to `sink`, the counts or what failed to `err`.
 pub(crate) fn perform<R: Source, W: Sink, E: Sink>(
     alloc: Global,
-    groups: &Groups<'_>,
+    naming: &Naming<'_, '_>,
     options: &FaultOptions<'_>,
     source: &mut R,
     sink: &mut W,
     err: &mut E,
 ) -> u8
-    ensures run { IsFaultsBy options.now groups.now result
+    ensures run { IsFaultsBy options.now (naming_of naming.now) result
         (turn R.remaining R.has_failed source.old source.new)
         (turn W.written W.has_failed sink.old sink.new)
         (turn E.written E.has_failed err.old err.new) }
@@ -177,7 +184,7 @@ pub(crate) fn perform<R: Source, W: Sink, E: Sink>(
     ensures passed_out { W.is_flushed sink.old ≡ true → W.has_failed sink.new ≡ false → W.is_flushed sink.new ≡ true }
     ensures passed_on { E.has_failed err.new ≡ false → E.is_flushed err.new ≡ true }
 {
-    match run(alloc, groups, options, source, sink) {
+    match run(alloc, naming, options, source, sink) {
         Ok(told) => {
             let counts = fault_counts_line(told);
             let text = end_text(
@@ -195,12 +202,12 @@ pub(crate) fn perform<R: Source, W: Sink, E: Sink>(
 /// Runs over the log.
 fn run<R: Source, W: Sink>(
     alloc: Global,
-    groups: &Groups<'_>,
+    naming: &Naming<'_, '_>,
     options: &FaultOptions<'_>,
     source: &mut R,
     sink: &mut W,
 ) -> Result<FaultCounts, RunFault>
-    ensures told { ToldFaults (makes_by options.now groups.now) (asks_by options.now) options.now.rows.input.bus log_limit result
+    ensures told { ToldFaults (makes_by options.now (naming_of naming.now)) (asks_by options.now) options.now.rows.input.bus log_limit result
         (turn R.remaining R.has_failed source.old source.new) (turn W.written W.has_failed sink.old sink.new) }
     ensures flushed { PassesOn result (begins_flushed options.now.rows.format (W.is_flushed sink.old)) (W.is_flushed sink.new) }
 {
@@ -219,7 +226,7 @@ fn run<R: Source, W: Sink>(
             };
             faults(
                 alloc,
-                groups,
+                naming,
                 rows.format,
                 choice,
                 source,
@@ -230,7 +237,7 @@ fn run<R: Source, W: Sink>(
         }
         FaultsTold::Now => faults_now(
             alloc,
-            groups,
+            naming,
             rows.format,
             conversions,
             filter,

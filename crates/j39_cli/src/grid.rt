@@ -216,7 +216,7 @@ fn run<R: Source, W: Sink>(
 }
 
 /// The parameters of the columns.
-fn columns_of(spns: &Option<Spns>) -> &[u32]
+pub(crate) fn columns_of(spns: &Option<Spns>) -> &[u32]
     ensures value { result.now ≡ unwrap_or spns.now [] }
     ensures few { length result.now ≤ 32 }
 {

@@ -12,6 +12,7 @@ mod fields;
 mod file_ends;
 mod grid;
 mod groups;
+mod heads;
 mod id;
 mod joined;
 mod lists;

@@ -15,16 +15,18 @@ ghost use Rattle.j39_cli.specs.Seconds.{AreSeconds, seconds_value};
 ghost use Rattle.j39_cli.specs.declared.task.Argument.TheVariants as argument;
 
 use crate::asked::SenderWord;
-use crate::command::{new_command, with_flag, with_option};
+use crate::command::{new_command, with_flag, with_names, with_option};
+use crate::heads::with_head;
 use crate::lists::slice_of;
 use crate::log::{LOG_LIMIT, copy_of, with_forms, with_log};
 use crate::seconds::micros_of;
 use crate::words::{bus_value, format_value, is_set, list_value, log_input};
-use crate::{Argument, NodesTold, ParseFault, Senders, Task};
+use crate::{Argument, NodesTold, ParseFault, Senders, Task, WordText};
 use clap::{ArgMatches, Command};
 use j39_io::{Sink, Source};
 use j39_listen::{Counts, Format, RunFault};
 use j39_log::Bus;
+use j39_names::Named;
 use j39_survey::{LONG_SILENCE, SeenAsked, nodes_of, nodes_seen};
 use std::alloc::{AllocError, Global};
 
@@ -37,9 +39,10 @@ none. `j1939 name` explains a NAME.
 With --seen or --silent, and in each of the other forms, it also has the time of that
 NAME's last claim of it and of the last frame from there; for how many seconds it was
 silent at the end of the log, and at most between two frames, since when, each if as
-many as --silent says or more. Then an address that nobody holds has a line too (dashes
-for the NAME, - for the claim), if other frames than claims came from there since its
-holder last changed.";
+many as --silent says or more; and what the NAME's function and manufacturer are called,
+if that is known. Then an address that nobody holds has a line too (dashes for the NAME,
+- for the claim), if other frames than claims came from there since its holder last
+changed.";
 
 const HELP: &str = "\
 At the end the counts go to standard error:
@@ -54,7 +57,7 @@ Example:
 writes lines such as
   00 8000000001401234
 and with --seen
-  00 8000000001401234 (1700000000.000000) (1700000060.250000) longest 12.300000 since (1700000004.100000)
+  00 8000000001401234 (1700000000.000000) (1700000060.250000) longest 12.300000 since (1700000004.100000) function engine manufacturer Cummins
   0B ---------------- - (1700000012.400000) silent 47.850000";
 
 /// What clap is told of it.
@@ -62,13 +65,14 @@ pub(crate) fn command<'a>(alloc: Global) -> Result<Command<'a>, AllocError>
     ensures { IsMade result nodes_app }
 {
     let about = "Writes who holds which address after a log";
-    let command = new_command(alloc, "nodes", about, ABOUT, HELP);
+    let command = with_names(alloc, new_command(alloc, "nodes", about, ABOUT, HELP));
     let help = "These addresses (hex), or those of these NAMEs (16 hex digits), alone";
     let command = with_option(alloc, command, "from", "A,..", false, help);
     let help = "Also when each was claimed and heard last, and who talks without a claim";
     let command = with_flag(alloc, command, "seen", help);
     let help = "The same, with silences of so many seconds or more; without it, 5";
     let command = with_option(alloc, command, "silent", "S", false, help);
+    let command = with_head(alloc, command);
     with_log(alloc, with_forms(alloc, command))
 }
 
@@ -76,6 +80,7 @@ pub(crate) fn command<'a>(alloc: Global) -> Result<Command<'a>, AllocError>
 pub(crate) fn task<'a>(alloc: Global, given: &ArgMatches<'a>) -> Result<Task<'a>, ParseFault>
     ensures { IsAnswered (command_found (codes "nodes") (found_of given.now)) result }
 {
+    let names = given.get_str("names").map(WordText::new);
     let bus = bus_value(given)?;
     let from = list_value::<SenderWord>(given, "from", Argument::From)?;
     let silence = silence_value(given)?;
@@ -83,8 +88,10 @@ pub(crate) fn task<'a>(alloc: Global, given: &ArgMatches<'a>) -> Result<Task<'a>
     match log_input(alloc, bus, given) {
         Ok(input) => Ok(Task::Nodes {
             input,
+            names,
             from,
             told: told_by(silence, is_set(given, "seen"), format),
+            has_head: is_set(given, "head"),
         }),
         Err(fault) => Err(fault),
     }
@@ -136,13 +143,14 @@ fn seen(format: Format) -> NodesTold
 
 /// Reads a log, and tells of the addresses after it, of those that are asked for.
 pub(crate) fn run<R: Source, W: Sink>(
+    own: &[Named<'_>],
     told: NodesTold,
     from: &Option<Senders>,
     bus: &Option<Bus>,
     source: &mut R,
     sink: &mut W,
 ) -> Result<Counts, RunFault>
-    ensures ran { Ran (makes_told told from.now) AsksNowhere bus.now log_limit result
+    ensures ran { Ran (makes_told own.now told from.now) AsksNowhere bus.now log_limit result
         (turn R.remaining R.has_failed source.old source.new) (turn W.written W.has_failed sink.old sink.new) }
     ensures flushed { PassesOn result (told_flushed told (W.is_flushed sink.old)) (W.is_flushed sink.new) }
 {
@@ -151,6 +159,7 @@ pub(crate) fn run<R: Source, W: Sink>(
         NodesTold::Held => held(from, source, sink, bus),
         NodesTold::Seen { format, silence } => {
             let asked = SeenAsked {
+                own,
                 format,
                 silence,
                 from: slice_of(from),

@@ -6,12 +6,13 @@ ghost use Rattle.j39_cli.specs.Asked.{with_asked};
 ghost use Rattle.j39_cli.specs.Form.{texts_found};
 ghost use Rattle.j39_cli.specs.LogCommand.{with_forms, with_log};
 ghost use Rattle.j39_cli.specs.RowOptions.{AreOptions, row_checks, rows_found};
-ghost use Rattle.j39_cli.specs.Rules.{IsMade, with_table};
+ghost use Rattle.j39_cli.specs.Rules.{IsMade, with_head, with_table};
 
 use crate::asked::{asked_value, with_asked};
 use crate::command::with_table;
+use crate::heads::with_head;
 use crate::log::{with_forms, with_log};
-use crate::words::{bus_value, format_value, log_input};
+use crate::words::{bus_value, format_value, is_set, log_input};
 use crate::{Asked, Conversions, FaultsTold, LogInput, ParseFault, WordText};
 use clap::{ArgMatches, Command};
 use j39_listen::Format;
@@ -28,6 +29,8 @@ pub struct RowOptions<'a> {
     pub asked: Asked,
     /// How it is written.
     pub format: Format,
+    /// Whether lines have a head.
+    pub has_head: bool,
 }
 
 /// What `faults` is told.
@@ -35,6 +38,8 @@ pub struct RowOptions<'a> {
 pub struct FaultOptions<'a> {
     /// Which log, and what is asked for of it.
     pub rows: RowOptions<'a>,
+    /// The file of names of one's own; `None` for none.
+    pub names: Option<WordText<'a>>,
     /// By which versions of their conversion SPNs are read; `None` for none.
     pub conversions: Option<Conversions>,
     /// What is told of the faults.
@@ -47,10 +52,10 @@ pub(crate) fn with_rows<'a>(
     command: Result<Command<'a>, AllocError>,
     spns: &'a str,
 ) -> Result<Command<'a>, AllocError>
-    ensures { (told : App) → IsMade command.entry told → IsMade result (with_log (with_forms (with_asked (with_table told)))) }
+    ensures { (told : App) → IsMade command.entry told → IsMade result (with_log (with_forms (with_head (with_asked (with_table told))))) }
 {
     let command = with_asked(alloc, with_table(alloc, command), spns);
-    with_log(alloc, with_forms(alloc, command))
+    with_log(alloc, with_forms(alloc, with_head(alloc, command)))
 }
 
 /// What the words of such a command say.
@@ -72,6 +77,7 @@ pub(crate) fn rows_given<'a>(
             table,
             asked,
             format,
+            has_head: is_set(given, "head"),
         }),
         Err(fault) => Err(fault),
     }

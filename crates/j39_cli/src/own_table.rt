@@ -1,4 +1,4 @@
-//! What the program says of a file that is no table of parameters.
+//! What the program says of a file that is no table of parameters, or that says no names.
 ghost use Rattle.std.specs.Prelude.{◌≡◌, false, true};
 ghost use Rattle.j39_io.specs.Turn.{turn};
 ghost use Rattle.j39_cli.specs.OwnTable.{table_line};
@@ -8,7 +8,7 @@ use crate::refusal::complain;
 use j39_io::Sink;
 use j39_table::TableFault;
 
-/// Says why this file is no table, and answers the exit status. A fault of the writer is passed over.
+/// Says why this file is no table, or says no names, and answers the exit status. A fault of the writer is passed over.
 pub fn wrong_table<E: Sink>(file: &str, fault: TableFault, err: &mut E) -> u8
     ensures status { result ≡ 1 }
     ensures err { Tells (turn E.written E.has_failed err.old err.new)

@@ -2,15 +2,19 @@
 ghost use Rattle.std.specs.Prelude.{◌≡◌, ◌⊎◌, false, true};
 ghost use Rattle.j39_io.specs.Turn.{turn};
 ghost use Rattle.j39_groups.specs.Table.{the_table};
-ghost use Rattle.j39_cli.specs.Task.{IsPerformed, reads_log};
+ghost use Rattle.j39_names.specs.Naming.{by_table, naming_of};
+ghost use Rattle.j39_cli.specs.Task.{IsPerformed, meaning_of, reads_log};
 
+use crate::heads::head_of;
 use crate::id::id_line;
-use crate::log::tell_end;
+use crate::log::{tell_end, tell_fault};
 use crate::name::name_lines;
-use crate::shown::show_text;
+use crate::shown::{put_text, show_text};
 use crate::{Task, answer, faults, grid, groups, nodes, report, summary, survey, watch};
 use j39_groups::Groups;
-use j39_io::{Sink, Source};
+use j39_io::{DeviceFault, Sink, Source};
+use j39_listen::RunFault;
+use j39_names::Naming;
 use std::alloc::Global;
 
 /// Performs a task by the built-in table of parameters.
@@ -24,7 +28,7 @@ pub fn perform<R: Source, W: Sink, E: Sink>(
     ensures status { (result ≡ 0) ⊎ (result ≡ 1) }
 
     // What each command leaves of the reader, the writer and the error writer.
-    ensures performed { IsPerformed the_table task.now result
+    ensures performed { IsPerformed (by_table the_table) task.now result
         (turn R.remaining R.has_failed source.old source.new)
         (turn W.written W.has_failed sink.old sink.new)
         (turn E.written E.has_failed err.old err.new) }
@@ -40,15 +44,17 @@ pub fn perform<R: Source, W: Sink, E: Sink>(
     // A fault that is told is passed on, where its writer has not failed.
     ensures passed_on { result ≡ 1 → E.has_failed err.new ≡ false → E.is_flushed err.new ≡ true }
 {
-    perform_with(alloc, &Groups::built_in(), task, source, sink, err)
+    let groups = Groups::built_in();
+    let naming = Naming::by_table(&groups);
+    perform_with(alloc, &naming, task, source, sink, err)
 }
 
-/// Performs a task by a table of parameters: reads its log from `source` where it has one, writes its
+/// Performs a task by names and their table of parameters: reads its log from `source` where it has one, writes its
 /// lines to `sink`, and says what happened on `err`. Answers the exit status: 0, or 1 for a fault of
 /// memory, of a device, or of the log's length. A fault of `err` is passed over.
 pub fn perform_with<R: Source, W: Sink, E: Sink>(
     alloc: Global,
-    groups: &Groups<'_>,
+    naming: &Naming<'_, '_>,
     task: &Task<'_>,
     source: &mut R,
     sink: &mut W,
@@ -57,7 +63,7 @@ pub fn perform_with<R: Source, W: Sink, E: Sink>(
     ensures status { (result ≡ 0) ⊎ (result ≡ 1) }
 
     // What each command leaves of the reader, the writer and the error writer.
-    ensures performed { IsPerformed groups.now task.now result
+    ensures performed { IsPerformed (naming_of naming.now) task.now result
         (turn R.remaining R.has_failed source.old source.new)
         (turn W.written W.has_failed sink.old sink.new)
         (turn E.written E.has_failed err.old err.new) }
@@ -73,14 +79,49 @@ pub fn perform_with<R: Source, W: Sink, E: Sink>(
     // A fault that is told is passed on, where its writer has not failed.
     ensures passed_on { result ≡ 1 → E.has_failed err.new ≡ false → E.is_flushed err.new ≡ true }
 {
+    let Some(head) = head_of(task) else {
+        return perform_below(alloc, naming, task, source, sink, err);
+    };
+    match put_text(head.as_slice(), sink) {
+        Ok(()) => perform_below(alloc, naming, task, source, sink, err),
+        Err(DeviceFault) => tell_fault(RunFault::Write, err),
+    }
+}
+
+/// Performs a task below its head.
+fn perform_below<R: Source, W: Sink, E: Sink>(
+    alloc: Global,
+    naming: &Naming<'_, '_>,
+    task: &Task<'_>,
+    source: &mut R,
+    sink: &mut W,
+    err: &mut E,
+) -> u8
+    ensures status { (result ≡ 0) ⊎ (result ≡ 1) }
+    ensures performed { (meaning_of task.now).Performs (naming_of naming.now) result
+        (turn R.remaining R.has_failed source.old source.new)
+        (turn W.written W.has_failed sink.old sink.new)
+        (turn E.written E.has_failed err.old err.new) }
+    ensures flushed { result ≡ 0 → W.is_flushed sink.new ≡ true }
+    ensures passed_out { W.is_flushed sink.old ≡ true → W.has_failed sink.new ≡ false → W.is_flushed sink.new ≡ true }
+    ensures unread { reads_log task.now ≡ false → source.new ≡ source.old }
+    ensures silent { reads_log task.now ≡ false → result ≡ 0 → err.new ≡ err.old }
+    ensures passed_on { result ≡ 1 → E.has_failed err.new ≡ false → E.is_flushed err.new ≡ true }
+{
+    let groups = naming.groups;
     match task {
         Task::Report(options) => report::perform(alloc, groups, options, source, sink, err),
         Task::Summary(options) => summary::perform(alloc, groups, options, source, sink, err),
         Task::Grid(options) => grid::perform(alloc, groups, options, source, sink, err),
-        Task::Faults(options) => faults::perform(alloc, groups, options, source, sink, err),
-        Task::Nodes { input, from, told } => tell_end(
+        Task::Faults(options) => faults::perform(alloc, naming, options, source, sink, err),
+        Task::Nodes {
+            input,
+            from,
+            told,
+            ..
+        } => tell_end(
             &input.bus,
-            nodes::run(*told, from, &input.bus, source, sink),
+            nodes::run(naming.own, *told, from, &input.bus, source, sink),
             err,
         ),
         Task::Answer {
@@ -93,8 +134,8 @@ pub fn perform_with<R: Source, W: Sink, E: Sink>(
         Task::Cut(outgoing) => show_text(outgoing.lines().as_slice(), sink, err),
         Task::Groups(_) => groups::perform(groups, sink, err),
         Task::Survey { input, format, .. } => {
-            survey::perform(alloc, *format, groups, &input.bus, source, sink, err)
+            survey::perform(alloc, *format, naming, &input.bus, source, sink, err)
         }
-        Task::Watch(options) => watch::perform(alloc, groups, options, source, sink, err),
+        Task::Watch(options) => watch::perform(alloc, naming, options, source, sink, err),
     }
 }

@@ -39,7 +39,7 @@ pub(crate) fn status_of<E: Sink>(put: Result<(), DeviceFault>, err: &mut E) -> u
 }
 
 /// Writes the text and passes it on.
-fn put_text<W: Sink>(text: &[u8], sink: &mut W) -> Result<(), DeviceFault>
+pub(crate) fn put_text<W: Sink>(text: &[u8], sink: &mut W) -> Result<(), DeviceFault>
     ensures puts { Puts text.now result (turn W.written W.has_failed sink.old sink.new) }
     ensures flushed { OnOk result (W.is_flushed sink.new ≡ true) }
     ensures passed_out { W.is_flushed sink.old ≡ true → W.has_failed sink.new ≡ false → W.is_flushed sink.new ≡ true }

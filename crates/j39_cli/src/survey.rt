@@ -2,19 +2,20 @@
 ghost use Rattle.std.specs.Prelude.{◌≡◌, codes, false, true};
 ghost use Rattle.j39_io.specs.Turn.{turn};
 ghost use Rattle.clap.specs.Words.{found_of};
+ghost use Rattle.j39_names.specs.Naming.{naming_of};
 ghost use Rattle.j39_cli.specs.CommandWords.{IsAnswered, command_found};
 ghost use Rattle.j39_cli.specs.SurveyCommand.{IsSurvey, survey_app};
 ghost use Rattle.j39_cli.specs.Rules.{IsMade};
 
-use crate::command::{new_command, with_table};
+use crate::command::{new_command, with_names, with_table};
 use crate::log::{LOG_LIMIT, copy_of, tell_fault, with_forms, with_log};
 use crate::words::{bus_value, format_value, log_input};
 use crate::{ParseFault, Task, WordText};
 use clap::{ArgMatches, Command};
-use j39_groups::Groups;
 use j39_io::{Sink, Source};
 use j39_listen::Format;
 use j39_log::Bus;
+use j39_names::Naming;
 use std::alloc::{AllocError, Global};
 
 const ABOUT: &str = "\
@@ -44,7 +45,8 @@ pub(crate) fn command<'a>(alloc: Global) -> Result<Command<'a>, AllocError>
     ensures { IsMade result survey_app }
 {
     let about = "Writes what a log is: its interfaces, groups and lines";
-    let command = with_table(alloc, new_command(alloc, "survey", about, ABOUT, HELP));
+    let command = new_command(alloc, "survey", about, ABOUT, HELP);
+    let command = with_names(alloc, with_table(alloc, command));
     with_log(alloc, with_forms(alloc, command))
 }
 
@@ -53,29 +55,31 @@ pub(crate) fn task<'a>(alloc: Global, given: &ArgMatches<'a>) -> Result<Task<'a>
     ensures { IsAnswered (command_found (codes "survey") (found_of given.now)) result }
 {
     let table = given.get_str("table").map(WordText::new);
+    let names = given.get_str("names").map(WordText::new);
     let bus = bus_value(given)?;
     let format = format_value(given)?;
     match log_input(alloc, bus, given) {
         Ok(input) => Ok(Task::Survey {
             input,
             table,
+            names,
             format,
         }),
         Err(fault) => Err(fault),
     }
 }
 
-/// Performs it by a table of parameters: the survey goes to `sink`, what failed to `err`.
+/// Performs it by these names and their table of parameters: the survey goes to `sink`, what failed to `err`.
 pub(crate) fn perform<R: Source, W: Sink, E: Sink>(
     alloc: Global,
     format: Format,
-    groups: &Groups<'_>,
+    naming: &Naming<'_, '_>,
     bus: &Option<Bus>,
     source: &mut R,
     sink: &mut W,
     err: &mut E,
 ) -> u8
-    ensures survey { IsSurvey format bus.now groups.now result
+    ensures survey { IsSurvey format bus.now (naming_of naming.now) result
         (turn R.remaining R.has_failed source.old source.new)
         (turn W.written W.has_failed sink.old sink.new)
         (turn E.written E.has_failed err.old err.new) }
@@ -84,7 +88,7 @@ pub(crate) fn perform<R: Source, W: Sink, E: Sink>(
     ensures passed_on { result ≡ 1 → E.has_failed err.new ≡ false → E.is_flushed err.new ≡ true }
 {
     let bus = copy_of(bus);
-    match j39_survey::survey(alloc, format, groups, source, sink, bus, LOG_LIMIT) {
+    match j39_survey::survey(alloc, format, naming, source, sink, bus, LOG_LIMIT) {
         Ok(()) => 0,
         Err(fault) => tell_fault(fault, err),
     }

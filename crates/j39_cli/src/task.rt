@@ -2,7 +2,7 @@
 ghost use Rattle.std.specs.Prelude.{◌≡◌, ◌≢◌, ◌↔◌, [], IfOk, IfSome, IsSome, OnErr, Some, map, option_map};
 ghost use Rattle.j39_frame.specs.Address.{IsAddress};
 ghost use Rattle.j39_cli.specs.Answer.{argument_form, argument_text};
-ghost use Rattle.j39_cli.specs.Task.{file_of, files_of, table_of};
+ghost use Rattle.j39_cli.specs.Task.{file_of, files_of, names_of, table_of};
 
 use crate::{FaultOptions, GridOptions, Outgoing, RowOptions, Senders, WatchOptions};
 use j39_address::Name;
@@ -168,10 +168,14 @@ pub enum Task<'a> {
     Nodes {
         /// The log to read.
         input: LogInput<'a>,
+        /// The file of names of one's own, as of faults.
+        names: Option<WordText<'a>>,
         /// The senders that are asked for; `None` for all.
         from: Option<Senders>,
         /// What is told of them.
         told: NodesTold,
+        /// Whether lines have a head.
+        has_head: bool,
     },
     /// What a node would send, had it been on the bus of a log.
     Answer {
@@ -188,6 +192,8 @@ pub enum Task<'a> {
         input: LogInput<'a>,
         /// The file of the table, as of a report.
         table: Option<WordText<'a>>,
+        /// The file of names of one's own, as of faults.
+        names: Option<WordText<'a>>,
         /// How it is written.
         format: Format,
     },
@@ -246,6 +252,19 @@ impl<'a> Task<'a> {
             _ => None,
         }
     }
+
+    /// The file of names of one's own, `--names`; `None` where it isn't given, or the command takes none.
+    pub fn names(&self) -> Option<&'a str>
+        ensures { option_map (λ text. text.now) result ≡ names_of self.now }
+    {
+        match self {
+            Task::Faults(options) => text_of(&options.names),
+            Task::Nodes { names, .. } => text_of(names),
+            Task::Survey { names, .. } => text_of(names),
+            Task::Watch(options) => text_of(&options.names),
+            _ => None,
+        }
+    }
 }
 
 fn text_of<'a>(word: &Option<WordText<'a>>) -> Option<&'a str>
@@ -268,12 +287,14 @@ pub enum Argument {
     Address,
     /// `--source`, the address that a message is sent from.
     Source,
-    /// `--pgn`, the parameter group of a message, or those that are asked for.
+    /// `--pgn` of `cut`, the parameter group of a message.
     Pgn,
     /// `--at`, the stamp of a message's first frame.
     At,
     /// HEX, hex digits that stand alone.
     Hex,
+    /// `--pgn`, the groups that are asked for.
+    Pgns,
     /// `--spn`, the parameters that are asked for.
     Spn,
     /// `--from`, the senders that are asked for.
@@ -311,6 +332,7 @@ impl Argument {
             Argument::Address => "--address",
             Argument::Source => "--source",
             Argument::Pgn => "--pgn",
+            Argument::Pgns => "--pgn",
             Argument::At => "--at",
             Argument::Hex => "HEX",
             Argument::Spn => "--spn",
@@ -340,6 +362,8 @@ impl Argument {
             | Argument::Pgn
             | Argument::At
             | Argument::Hex => return None,
+            Argument::Pgns =>
+                "--pgn takes up to 32 numbers below 262144 (decimal) with commas between, as 61444,65262",
             Argument::Spn =>
                 "--spn takes up to 32 numbers below 524288 with commas between, as 190,110",
             Argument::From =>

@@ -20,7 +20,7 @@ pub use Rattle.j39_frame.specs.Network.{transport_control_group, transport_data_
 pub use Rattle.j39_frame.specs.Origin.{is_same_or_none}
 pub use Rattle.j39_frame.specs.Stamp.{stamp_micros}
 pub use Rattle.j39_groups.proofs.VisitLemmas.{flat_map-next}
-pub use Rattle.j39_groups.specs.Row.{RowRecord}
+pub use Rattle.j39_names.specs.Naming.{NamingRecord, naming_of}
 pub use Rattle.j39_io.proofs.DeviceLemmas.{on_err_from}
 pub use Rattle.j39_io.proofs.PutsLemmas.{puts_as, puts_done, puts_failed, puts_first, puts_nothing, puts_then, puts_until}
 pub use Rattle.j39_io.specs.Device.{AppendsFront}

@@ -8,9 +8,9 @@ use Rattle.j39_faults.specs.Conversions.{codes_by}
 use Rattle.j39_faults.specs.declared.change.Change.TheVariants.{Again, Set}
 use Rattle.j39_fault_reports.specs.FaultChanges.{last_bytes}
 use Rattle.j39_fault_reports.specs.CurrentPlaces.{LastRecord, LastActives, StandingRecord, at, continued, found_in, going_on, is_same_code, last_by, name_in, standings_under}
-use Rattle.j39_fault_reports.specs.CurrentSoFar.{AreKept, IsLast, kept_of, lights_shown, now_shown, nows_shown, shown_below, standing_of, told_so_far}
+use Rattle.j39_fault_reports.specs.CurrentSoFar.{AreKept, IsLast, kept_of, lights_shown, now_shown, nows_shown, standing_of, told_so_far}
 use Rattle.j39_fault_reports.specs.Faults.{codes_or_none}
-use Rattle.j39_fault_reports.specs.FaultsNow.{codes_in, earliest, lights_by, lights_in, lit, named, names, naming, now_below, now_by, now_in, told_below}
+use Rattle.j39_fault_reports.specs.FaultsNow.{codes_in, earliest, lights_by, lights_in, lit, named, names, naming, now_by, now_in, told_below}
 use Rattle.j39_fault_reports.specs.News.{goes_on}
 use Rattle.j39_fault_reports.specs.Places.{HaveTaken, IsKept, kept_before}
 use Rattle.j39_fault_reports.specs.Spoken.{Spoken, continued_by, nearest, sent_before, spoken_in}
@@ -203,12 +203,6 @@ lights_at : (cs : List Conversion) (a : ℕ) (said : List Hearing) (place : Opti
 lights_at cs a [] place none = ap (lights_shown a) none
 lights_at cs a (x ∷ e) place (last, some, called, (lamps, is, last_is)) =
     ap (lights_shown a) (some ∙ ap (λ (l : LastRecord). Some l) last_is) ∙ sym (ap (lights_by a x) is)
-
-pub shown_all : (cs : List Conversion) (ms : List Hearing) (places : LastActives) → AreKept cs places ms → (n : ℕ) → n ≤ 256 → shown_below places n ≡ now_below cs ms n
-unfolding shown_below now_below
-shown_all cs ms places kept zero l = refl
-shown_all cs ms places kept (suc n) l =
-    λ i. shown_all cs ms places kept n (omega arith) i ++ shown_at cs n (spoken_in ms n) (at places n) (kept.each n (omega arith)) i
 
 pub told_all : (cs : List Conversion) (ms : List Hearing) (places : LastActives) → AreKept cs places ms → (n : ℕ) → n ≤ 256 → told_so_far places n ≡ told_below cs ms n
 unfolding told_so_far told_below

@@ -15,10 +15,10 @@ module _ (form : Format) (rows : Manner) (before : List ℕ) (lamps : Lamps) (sa
   abbrev f : Fault
   f = said (lights lamps)
 
-  line_by : (s : Saying) → f.saying ≡ s → (if saying_asked rows s then row_text form head (saying_columns rows.rows s) else []) ≡ faults_text form rows (f ∷ [])
+  line_by : (s : Saying) → f.saying ≡ s → (if saying_asked rows s then row_text form head (saying_columns rows.naming s) else []) ≡ faults_text form rows (f ∷ [])
   unfolding faults_text
-  line_by s same = ap (λ s. if saying_asked rows s then row_text form head (saying_columns rows.rows s) else []) (sym same)
-      ∙ ap (λ h. if says_asked rows f then row_text form h (saying_columns rows.rows f.saying) else []) is ∙ sym (append-nil _)
+  line_by s same = ap (λ s. if saying_asked rows s then row_text form head (saying_columns rows.naming s) else []) (sym same)
+      ∙ ap (λ h. if says_asked rows f then row_text form h (saying_columns rows.naming f.saying) else []) is ∙ sym (append-nil _)
 
   pub lights_text : lights_line form head rows before lamps ≡ faults_text form rows (lights_since before lamps said)
   lights_text = by (bytes_eq (lamps_told lamps) before)

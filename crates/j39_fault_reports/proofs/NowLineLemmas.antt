@@ -4,7 +4,7 @@ use Rattle.std.specs.Prelude.{bytes_eq}
 use Rattle.j39_faults.specs.Text.{lamps_told}
 use Rattle.j39_fault_reports.specs.FaultRows.{faults_text, message_columns, message_head}
 use Rattle.j39_fault_reports.specs.CurrentPlaces.{LastRecord, LastActives, StandingRecord, at, standing_record}
-use Rattle.j39_fault_reports.specs.CurrentSoFar.{lights_shown, now_shown, nows_shown, said_here, shown_below, taken_below, told_shown, told_so_far}
+use Rattle.j39_fault_reports.specs.CurrentSoFar.{lights_shown, now_shown, nows_shown, said_here, taken_below, told_shown, told_so_far}
 use Rattle.j39_fault_reports.specs.FaultsNow.{Now, Told, asks_now, lit, named, now_taken}
 use Rattle.j39_fault_reports.specs.FaultsNowRun.{now_head, now_lines, now_text, told_asked, told_line}
 use Rattle.j39_fault_reports.specs.Faults.{Fault, Manner, lights, names_asked}
@@ -139,18 +139,11 @@ rest_of below here next n (suc k) =
     (r.0 ++ here (k + n), ap below more ∙ next (k + n) ∙ ap (λ xs. xs ++ here (k + n)) r.1 ∙ append_assoc (below n) r.0 (here (k + n)))
 
 module _ (places : LastActives) where
-  pub shown_next : (n : ℕ) → shown_below places (n + 1) ≡ shown_below places n ++ nows_shown n (at places n)
-  unfolding shown_below
-  shown_next n = (let next : n + 1 ≡ suc n = omega arith in ap (shown_below places) next)
-
-  pub shown_rest : (n k : ℕ) → (rest : List Now) × (shown_below places (k + n) ≡ shown_below places n ++ rest)
-  shown_rest n k = rest_of (shown_below places) (λ n. nows_shown n (at places n)) shown_next n k
-
-  told_next : (n : ℕ) → told_so_far places (n + 1) ≡ told_so_far places n ++ told_shown n (at places n)
+  pub told_next : (n : ℕ) → told_so_far places (n + 1) ≡ told_so_far places n ++ told_shown n (at places n)
   unfolding told_so_far
   told_next n = (let next : n + 1 ≡ suc n = omega arith in ap (told_so_far places) next)
 
-  told_rest : (n k : ℕ) → (rest : List Told) × (told_so_far places (k + n) ≡ told_so_far places n ++ rest)
+  pub told_rest : (n k : ℕ) → (rest : List Told) × (told_so_far places (k + n) ≡ told_so_far places n ++ rest)
   told_rest n k = rest_of (told_so_far places) (λ n. told_shown n (at places n)) told_next n k
 
 -- ---- of what stands there, what is asked for

@@ -74,11 +74,6 @@ abbrev pub nows_shown : ℕ → Option LastRecord → List Now
 nows_shown a None = []
 nows_shown a (Some last) = map (now_shown a last) last.standings
 
--- at the places below n
-unfoldable pub shown_below : LastActives → ℕ → List Now
-shown_below places zero = []
-shown_below places (suc n) = shown_below places n ++ nows_shown n (at places n)
-
 -- what its message says
 abbrev pub said_here : ℕ → LastRecord → Saying → Fault
 said_here a last saying = record {
@@ -97,6 +92,7 @@ lights_shown a (Some last) = lights_since [] last.lamps (said_here a last)
 abbrev pub told_shown : ℕ → Option LastRecord → List Told
 told_shown a place = map (λ f. lit f) (lights_shown a place) ++ map (λ n. named n) (nows_shown a place)
 
+-- at the places below n
 unfoldable pub told_so_far : LastActives → ℕ → List Told
 told_so_far places zero = []
 told_so_far places (suc n) = told_so_far places n ++ told_shown n (at places n)

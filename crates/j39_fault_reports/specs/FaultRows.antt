@@ -10,12 +10,14 @@ use Rattle.j39_faults.specs.declared.kind.Kind.{Kind}
 use Rattle.j39_faults.specs.declared.lamps.Lamps.{Lamps}
 use Rattle.j39_faults.specs.declared.text.State.{State}
 use Rattle.j39_faults.specs.declared.text.State.TheVariants.{Is, Became}
-use Rattle.j39_groups.specs.Row.{RowRecord}
+use Rattle.j39_names.specs.Naming.{NamingRecord}
+use Rattle.j39_listen.specs.declared.format.Clock.TheVariants.{Seconds}
 use Rattle.j39_listen.specs.declared.format.Format.{Format}
+use Rattle.j39_listen.specs.declared.format.Format.TheVariants.{Line}
 use Rattle.j39_fault_reports.specs.Faults.{Fault, Manner, Saying, clears, lights, name_in, says, says_asked}
 use Rattle.j39_fault_reports.specs.declared.fault_news.telling.Telling.{Telling}
 use Rattle.j39_fault_reports.specs.declared.fault_news.telling.Telling.TheVariants.{Changes}
-use Rattle.j39_rows.specs.Row.{CellRecord, ColumnRecord, HeadRecord, address_cell, aside, beside_lines, dash, if_any, in_all, name_column, nothing, number_cell, or_nothing, plain, row_text, seconds, text, text_or_nothing, utc_cell, word}
+use Rattle.j39_rows.specs.Row.{CellRecord, ColumnRecord, HeadRecord, address_cell, aside, beside_lines, column_text, dash, if_any, in_all, name_column, nothing, number_cell, or_nothing, plain, row_text, seconds, text, text_or_nothing, utc_cell, word}
 
 -- the names of the columns of records, with this one for the state
 abbrev pub columns_with : List ℕ → List ℕ
@@ -64,13 +66,13 @@ abbrev pub state_name : State → List ℕ
 state_name (Is kind) = codes "state"
 state_name (Became change) = codes "change"
 
--- by what the table calls the parameter; where it has no name by a word and its number, or its candidates
-abbrev pub said_columns : List RowRecord → State → Lamps → Option Code → List ColumnRecord
-said_columns rows how lamps None =
+-- by what the parameter is called; where it has no name by a word and its number, or its candidates
+abbrev pub said_columns : NamingRecord → State → Lamps → Option Code → List ColumnRecord
+said_columns naming how lamps None =
     uncoded (state_name how) (state_text how) (codes "none") (text_or_nothing (lamps_told lamps)) (codes "no code")
-said_columns rows how lamps (Some code) =
+said_columns naming how lamps (Some code) =
     coded (state_name how) (state_text how) (text_or_nothing (lamps_told lamps))
-    (unwrap_or (name_in rows code) (parameter_words code.parameter)) code
+    (unwrap_or (name_in naming code) (parameter_words code.parameter)) code
 
 -- a line of lamps has these alone behind what it begins with
 abbrev pub lights_columns : CellRecord → List ColumnRecord
@@ -83,10 +85,14 @@ lights_columns lamps =
 abbrev pub clearing_columns : Kind → List ColumnRecord
 clearing_columns kind = uncoded (codes "state") (clear_text kind) (codes "all") nothing (codes "all codes")
 
-abbrev pub saying_columns : List RowRecord → Saying → List ColumnRecord
-saying_columns rows (lights lamps) = lights_columns (text_or_nothing (lamps_told lamps))
-saying_columns rows (says how lamps code) = said_columns rows how lamps code
-saying_columns rows (clears kind) = clearing_columns kind
+abbrev pub saying_columns : NamingRecord → Saying → List ColumnRecord
+saying_columns naming (lights lamps) = lights_columns (text_or_nothing (lamps_told lamps))
+saying_columns naming (says how lamps code) = said_columns naming how lamps code
+saying_columns naming (clears kind) = clearing_columns kind
+
+-- as it stands in a line, behind what that begins with
+abbrev pub saying_text : NamingRecord → Saying → List ℕ
+saying_text naming saying = flat_map (column_text (Line Seconds)) (saying_columns naming saying)
 
 -- what the column of the state is called in its row
 abbrev pub saying_name : Saying → List ℕ
@@ -98,7 +104,7 @@ saying_name (clears kind) = codes "state"
 abbrev pub fault_in : Format → Manner → Fault → List ℕ
 fault_in form manner f =
     if says_asked manner f
-    then row_text form (message_head f.stamp f.address f.destination f.name) (saying_columns manner.rows f.saying) else []
+    then row_text form (message_head f.stamp f.address f.destination f.name) (saying_columns manner.naming f.saying) else []
 
 unfoldable pub faults_text : Format → Manner → List Fault → List ℕ
 faults_text form manner faults = flat_map (fault_in form manner) faults

@@ -1,7 +1,6 @@
 -- What is told of a message of faults (own).
 use Rattle.std.specs.Prelude.{◌==◌, ◌&&◌, ◌++◌, ◌||◌, ℕ, Bool, true, false, List, [], ◌∷◌, Option, Some, None, bytes_eq, count_by, filter, if◌then◌else◌, map}
 use Rattle.std.specs.List.{list_any}
-use Rattle.std.specs.Option.{option_or}
 use Rattle.j39_faults.specs.Conversions.{codes_by, version_for}
 use Rattle.j39_faults.specs.FaultGroups.{cleared_in, kind_of}
 use Rattle.j39_faults.specs.LampBits.{lamps_of}
@@ -14,14 +13,13 @@ use Rattle.j39_faults.specs.declared.code.Parameter.TheVariants.{Known, OneOf}
 use Rattle.j39_faults.specs.declared.conversion.Conversion.{Conversion}
 use Rattle.j39_faults.specs.declared.conversion.Version.{Version}
 use Rattle.j39_faults.specs.declared.kind.Kind.{Kind}
+use Rattle.j39_faults.specs.declared.kind.Kind.TheVariants.{Active}
 use Rattle.j39_faults.specs.declared.lamps.Lamps.{Lamps}
-use Rattle.j39_groups.specs.Names.{parameter_name}
-use Rattle.j39_groups.specs.Row.{RowRecord}
 use Rattle.j39_listen.specs.Filter.{FilterRecord, asks_for}
 use Rattle.j39_listen.specs.Heard.{Hearing}
 use Rattle.j39_listen.specs.declared.format.Format.{Format}
 use Rattle.j39_listen.specs.declared.format.Format.TheVariants.{Line, Object, Record}
-use Rattle.j39_names.specs.Called.{parameter_called}
+use Rattle.j39_names.specs.Naming.{NamingRecord, parameter_by}
 
 -- the lamps of who sent it; a code of a kind, what became of it, or that a message has none, and with which lamps; or that the codes
 -- of a kind are to be cleared
@@ -29,6 +27,11 @@ pub data Saying : Type 0 where
   lights : Lamps → Saying
   says : State → Lamps → Option Code → Saying
   clears : Kind → Saying
+
+-- of an active code; of none, the lamps
+abbrev pub active_or_lights : Lamps → Option Code → Saying
+active_or_lights lamps None = lights lamps
+active_or_lights lamps (Some code) = says (Is Active) lamps (Some code)
 
 -- when it was said, at which address, to whom, under which NAME, and by a message of which group
 pub record Fault : Type 0 where
@@ -89,9 +92,9 @@ faults_or_clearing conversions m None =
 
 -- ---- what is asked for by its SPN
 
--- by which table faults are written, of which parameters alone, where some are asked for, and whether lamps have a line of their own
+-- by which names faults are written, of which parameters alone, where some are asked for, and whether lamps have a line of their own
 pub record Manner : Type 0 where
-  pub rows : List RowRecord
+  pub naming : NamingRecord
   pub spns : Option (List ℕ)
   pub lights : Bool
 
@@ -101,8 +104,8 @@ has_lights (Line clock) = true
 has_lights Record = false
 has_lights Object = false
 
-abbrev pub manner_in : Format → List RowRecord → Option (List ℕ) → Manner
-manner_in form rows spns = record { rows = rows; spns = spns; lights = has_lights form }
+abbrev pub manner_in : Format → NamingRecord → Option (List ℕ) → Manner
+manner_in form naming spns = record { naming = naming; spns = spns; lights = has_lights form }
 
 abbrev pub is_number_of : List ℕ → ℕ → Bool
 is_number_of spns spn = list_any (λ asked. asked == spn) spns
@@ -138,10 +141,10 @@ lines_in manner faults = count_by (says_asked manner) faults
 abbrev pub faults_in : List Conversion → Hearing → List Fault
 faults_in conversions m = faults_or_clearing conversions m (cleared_in m.message.pgn m.message.bytes)
 
--- what a parameter is called, where its SPN is known: by a table, or else by the names that are built in
-abbrev pub name_of : List RowRecord → Parameter → Option (List ℕ)
-name_of rows (Known spn) = option_or (parameter_name rows spn) (parameter_called spn)
-name_of rows (OneOf spns) = None
+-- what a parameter is called, where its SPN is known
+abbrev pub name_of : NamingRecord → Parameter → Option (List ℕ)
+name_of naming (Known spn) = parameter_by naming spn
+name_of naming (OneOf spns) = None
 
-abbrev pub name_in : List RowRecord → Code → Option (List ℕ)
-name_in rows code = name_of rows code.parameter
+abbrev pub name_in : NamingRecord → Code → Option (List ℕ)
+name_in naming code = name_of naming code.parameter

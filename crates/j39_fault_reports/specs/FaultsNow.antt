@@ -75,15 +75,6 @@ now_in conversions address (m ∷ before) = now_by conversions address m before 
 abbrev pub now_at : List Conversion → List Hearing → ℕ → List Now
 now_at conversions ms address = now_in conversions address (spoken_in ms address)
 
--- at the addresses below n, in order
-unfoldable pub now_below : List Conversion → List Hearing → ℕ → List Now
-now_below conversions ms zero = []
-now_below conversions ms (suc n) = now_below conversions ms n ++ now_at conversions ms n
-
--- at all
-abbrev pub faults_now : List Conversion → List Hearing → List Now
-faults_now conversions ms = now_below conversions ms 256
-
 -- ---- before the codes of a controller its lamps are told, if they aren't all off
 
 pub data Told : Type 0 where

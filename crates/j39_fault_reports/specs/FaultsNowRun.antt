@@ -39,7 +39,7 @@ now_head till n = record {
 -- if its code is asked for
 abbrev pub now_line : Format → Manner → Option ℕ → Now → List ℕ
 now_line form manner till n =
-    if names_asked manner.spns n.code then row_text form (now_head till n) (said_columns manner.rows (Is Active) n.lamps n.code) else []
+    if names_asked manner.spns n.code then row_text form (now_head till n) (said_columns manner.naming (Is Active) n.lamps n.code) else []
 
 abbrev pub told_line : Format → Manner → Option ℕ → Told → List ℕ
 told_line form manner till (lit f) = fault_in form manner f

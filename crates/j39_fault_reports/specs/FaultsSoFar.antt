@@ -27,6 +27,7 @@ use Rattle.j39_listen.specs.declared.listener.Listener.{Listener}
 use Rattle.j39_faults.specs.declared.text.State.{State}
 use Rattle.j39_fault_reports.specs.Faults.{Fault, Manner, faults_by, faults_taken, lights_asked, lines_in, manner_in, names_asked}
 use Rattle.std.specs.Borrow.{Bor}
+use Rattle.j39_names.specs.Naming.{naming_of}
 use Rattle.j39_fault_reports.specs.declared.fault_news.form.Writing.{Writing}
 use Rattle.j39_fault_reports.specs.FaultChanges.{became, changes_by}
 use Rattle.j39_fault_reports.specs.Told.{told_here}
@@ -52,12 +53,12 @@ abbrev pub spns_now : Option (Bor (List ℕ)) → Option (List ℕ)
 spns_now = option_map (λ spns. spns.now)
 
 abbrev pub manner_of : Writing → Manner
-manner_of w = manner_in w.form w.groups.now (spns_now w.spns)
+manner_of w = manner_in w.form (naming_of w.naming.now) (spns_now w.spns)
 
 -- what is said behind what stands before it, if its code is asked for
 abbrev pub line_of : Format → HeadRecord → Manner → State → Lamps → Option Code → List ℕ
 line_of form head manner how lamps code =
-    if names_asked manner.spns code then row_text form head (said_columns manner.rows how lamps code) else []
+    if names_asked manner.spns code then row_text form head (said_columns manner.naming how lamps code) else []
 
 -- whether lamps are told behind what was told of them before, and their line behind what stands before it
 abbrev pub are_lit : Manner → List ℕ → Lamps → Bool

@@ -16,6 +16,6 @@ mod since;
 mod telling;
 
 pub use account::is_of_fault_group;
-pub use names::name_in;
+pub use lines::put_active;
 pub use run::{FaultCounts, faults};
 pub use telling::{Choice, Telling};

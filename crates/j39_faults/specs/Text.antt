@@ -1,10 +1,9 @@
--- The text of a code and of the lamps (own).
-use Rattle.std.specs.Prelude.{◌&&◌, ◌++◌, ◌∷◌, ℕ, List, [], Bool, true, false, Option, Some, None, if◌then◌else◌, codes, decimal, unwrap_or}
+-- The words for a code and for the lamps (own).
+use Rattle.std.specs.Prelude.{◌&&◌, ◌++◌, ◌∷◌, ℕ, List, [], Bool, true, false, Option, Some, None, if◌then◌else◌, codes, decimal}
 use Rattle.std.specs.List.{join_with_byte}
 use Rattle.j39_faults.specs.declared.change.Change.{Change}
 use Rattle.j39_faults.specs.declared.change.Change.TheVariants.{Set, Again, Cleared}
 use Rattle.j39_faults.specs.declared.code.Candidates.{Candidates}
-use Rattle.j39_faults.specs.declared.code.Code.{Code}
 use Rattle.j39_faults.specs.declared.code.Parameter.{Parameter}
 use Rattle.j39_faults.specs.declared.code.Parameter.TheVariants.{Known, OneOf}
 use Rattle.j39_faults.specs.declared.kind.Kind.{Kind}
@@ -17,7 +16,6 @@ use Rattle.j39_faults.specs.declared.lamps.LampState.TheVariants as state
 use Rattle.j39_faults.specs.declared.lamps.Lamps.{Lamps}
 use Rattle.j39_faults.specs.declared.text.State.{State}
 use Rattle.j39_faults.specs.declared.text.State.TheVariants.{Is, Became}
-use Rattle.j39_faults.specs.Words.{fmi_words}
 
 abbrev pub kind_text : Kind → List ℕ
 kind_text Active = codes "active"
@@ -101,37 +99,14 @@ or_dash (x ∷ xs) = x ∷ xs
 unfoldable pub lamps_text : Lamps → List ℕ
 lamps_text lamps = or_dash (lamps_told lamps)
 
--- ---- a code
-
-abbrev pub spn_text : Parameter → List ℕ
-spn_text (Known spn) = decimal spn
-spn_text (OneOf spns) = codes "-"
-
-abbrev pub count_text : Option ℕ → List ℕ
-count_text None = codes "-"
-count_text (Some count) = decimal count
+-- ---- a parameter without a name
 
 abbrev pub candidates_words : Candidates → List ℕ
 candidates_words spns =
     codes "SPN " ++ decimal spns.version_1 ++ codes ", " ++ decimal spns.version_2 ++ codes " or "
     ++ decimal spns.version_3 ++ codes " by conversion 1, 2 or 3"
 
--- what stands for the name of a parameter that has none
+-- what stands for its name
 abbrev pub parameter_words : Parameter → List ℕ
 parameter_words (Known spn) = codes "SPN " ++ decimal spn
 parameter_words (OneOf spns) = candidates_words spns
-
-abbrev pub meaning_text : ℕ → List ℕ
-meaning_text fmi = codes ": " ++ fmi_words fmi
-
--- the state, the SPN, the FMI, the count and the lamps
-abbrev pub columns_text : State → Lamps → Code → List ℕ
-columns_text how lamps code =
-    state_text how ++ codes " " ++ spn_text code.parameter ++ codes " " ++ decimal code.fmi ++ codes " "
-    ++ count_text code.count ++ codes " " ++ lamps_text lamps
-
--- as `active 110 4 3 red,amber coolant temperature: voltage below normal, or shorted to low source`, by the name of the parameter
-unfoldable pub code_text : State → Lamps → Option (List ℕ) → Code → List ℕ
-code_text how lamps name code =
-    columns_text how lamps code ++ codes " " ++ unwrap_or name (parameter_words code.parameter)
-    ++ meaning_text code.fmi

@@ -24,6 +24,6 @@ pub use lamps::{Flash, Lamp, LampState, Lamps, lamps_of};
 pub use message::{FaultsMessage, faults_message};
 pub use sameness::tells_same;
 pub use text::{
-    ClearWord, ParameterWords, State, clear_word, kind_word, parameter_words, put_code, state_word,
+    ClearWord, ParameterWords, State, clear_word, kind_word, parameter_words, state_word,
 };
 pub use words::fmi_words;

@@ -35,7 +35,7 @@ pub use field::Field;
 pub use groups_table::{Groups, is_reported};
 pub use listable::{is_heard_group, is_network_group};
 pub use printed::{decimal_of, push_decimal, push_range};
-pub use reading::{reading_at, readings};
+pub use reading::{pick, reading_at, readings};
 pub use row::Row;
 pub use rows::Rows;
 pub use rows_before::{HEAD, LINES};

@@ -137,6 +137,15 @@ fn pick_of_rows<'t, 'v>(
     Err(left)
 }
 
+/// The reading behind so many, `left`, of those that a row, as `Row::new` makes it, gives in a payload of its group (J1939-71);
+/// else how many are still to be left out.
+pub fn pick<'t, 'v>(row: &Row<'t>, bytes: &'v [u8], left: usize) -> Result<Reading<'t, 'v>, usize>
+    requires { is_row row.now ≡ true }
+    ensures { IsPicked (readings_at bytes.now (row_record row.now)) left result }
+{
+    pick_of_row(row, bytes, left)
+}
+
 /// The same, by one row.
 #[inline(always)]
 #[tactic(auto, unfolding(crate::specs::Readings::values_at))]

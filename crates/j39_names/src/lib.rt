@@ -8,7 +8,10 @@ mod functions;
 mod groups;
 mod makers;
 mod name_table;
+mod naming;
 mod parameters;
+
+pub use naming::{Kind, Named, Naming, function_by, maker_by};
 
 /// What a parameter is called (J1939-71, J1939-73); `None` where its name isn't known.
 pub fn parameter_name(spn: u32) -> Option<&'static [u8]>

@@ -5,7 +5,7 @@ ghost use Rattle.j39_names.specs.Names.{names_of};
 use crate::name_table::NameTable;
 
 /// The SPNs that have a name, from the least on.
-pub const NUMBERS: [u32; 1424] = [
+pub const NUMBERS: [u32; 1462] = [
     16, 18, 19, 20, 21, 22, 26, 27, 28, 29, 38, 46, 48, 51, 52, 53, 54, 59, 60, 69, 70, 72, 73, 74,
     75, 77, 78, 79, 80, 81, 82, 84, 86, 87, 88, 90, 91, 92, 93, 94, 95, 96, 97, 98, 99, 100, 101,
     102, 103, 104, 105, 106, 107, 108, 109, 110, 111, 112, 113, 114, 115, 116, 117, 118, 119, 120,
@@ -53,48 +53,50 @@ pub const NUMBERS: [u32; 1424] = [
     1602, 1611, 1612, 1613, 1614, 1615, 1616, 1617, 1618, 1619, 1620, 1621, 1622, 1623, 1624, 1625,
     1626, 1633, 1634, 1635, 1636, 1637, 1638, 1639, 1653, 1656, 1665, 1666, 1667, 1675, 1691, 1692,
     1693, 1694, 1695, 1696, 1697, 1698, 1699, 1700, 1701, 1713, 1714, 1715, 1716, 1717, 1721, 1722,
-    1723, 1724, 1725, 1726, 1727, 1728, 1761, 1762, 1765, 1766, 1792, 1793, 1795, 1800, 1801, 1802,
-    1803, 1804, 1807, 1808, 1809, 1810, 1811, 1813, 1814, 1815, 1816, 1817, 1818, 1819, 1821, 1834,
-    1835, 1836, 1856, 2000, 2001, 2002, 2003, 2004, 2005, 2006, 2007, 2008, 2009, 2010, 2011, 2012,
-    2013, 2014, 2015, 2016, 2017, 2018, 2019, 2020, 2021, 2022, 2023, 2024, 2025, 2026, 2027, 2028,
-    2029, 2030, 2031, 2032, 2033, 2034, 2035, 2036, 2037, 2038, 2039, 2040, 2041, 2042, 2043, 2044,
-    2045, 2046, 2047, 2048, 2049, 2050, 2051, 2052, 2053, 2054, 2055, 2056, 2057, 2058, 2059, 2060,
-    2061, 2062, 2063, 2064, 2065, 2066, 2067, 2068, 2069, 2070, 2071, 2072, 2073, 2074, 2075, 2076,
-    2077, 2078, 2079, 2080, 2081, 2082, 2083, 2084, 2085, 2086, 2087, 2088, 2089, 2090, 2091, 2092,
-    2093, 2094, 2095, 2096, 2097, 2098, 2099, 2100, 2101, 2102, 2103, 2104, 2105, 2106, 2107, 2108,
-    2109, 2110, 2111, 2112, 2113, 2114, 2115, 2116, 2117, 2118, 2119, 2120, 2121, 2122, 2123, 2124,
-    2125, 2126, 2127, 2128, 2129, 2130, 2131, 2132, 2133, 2134, 2135, 2136, 2137, 2138, 2139, 2140,
-    2141, 2142, 2143, 2144, 2145, 2146, 2147, 2148, 2149, 2150, 2151, 2152, 2153, 2154, 2155, 2156,
-    2157, 2158, 2159, 2160, 2161, 2162, 2163, 2164, 2165, 2166, 2167, 2168, 2169, 2170, 2171, 2172,
-    2173, 2174, 2175, 2176, 2177, 2178, 2179, 2180, 2181, 2182, 2183, 2184, 2185, 2186, 2187, 2188,
-    2189, 2190, 2191, 2192, 2193, 2194, 2195, 2196, 2197, 2198, 2199, 2200, 2201, 2202, 2203, 2204,
-    2205, 2206, 2207, 2208, 2209, 2210, 2211, 2212, 2213, 2214, 2215, 2216, 2217, 2218, 2219, 2220,
-    2221, 2222, 2223, 2224, 2225, 2226, 2227, 2228, 2229, 2230, 2231, 2232, 2233, 2234, 2235, 2236,
-    2237, 2238, 2239, 2240, 2241, 2242, 2243, 2244, 2245, 2246, 2247, 2248, 2249, 2250, 2251, 2252,
-    2253, 2254, 2255, 2348, 2350, 2368, 2370, 2372, 2374, 2376, 2432, 2433, 2434, 2435, 2436, 2437,
-    2438, 2439, 2440, 2441, 2442, 2443, 2444, 2445, 2446, 2447, 2448, 2449, 2450, 2451, 2452, 2453,
-    2454, 2455, 2456, 2457, 2458, 2459, 2460, 2461, 2462, 2463, 2464, 2465, 2466, 2467, 2468, 2469,
-    2540, 2596, 2602, 2623, 2629, 2630, 2631, 2634, 2659, 2660, 2791, 2795, 2797, 2798, 2802, 2863,
-    2872, 2873, 2874, 2876, 2882, 2899, 2900, 2901, 2902, 2903, 2904, 2920, 2970, 2978, 2979, 3030,
-    3031, 3069, 3216, 3217, 3218, 3219, 3220, 3221, 3222, 3223, 3224, 3225, 3226, 3227, 3228, 3229,
-    3230, 3231, 3232, 3233, 3234, 3235, 3236, 3237, 3238, 3239, 3240, 3241, 3242, 3243, 3244, 3245,
-    3246, 3247, 3248, 3249, 3250, 3251, 3252, 3253, 3254, 3255, 3256, 3265, 3266, 3275, 3276, 3279,
-    3280, 3283, 3284, 3285, 3294, 3295, 3296, 3301, 3302, 3349, 3350, 3353, 3354, 3355, 3356, 3357,
-    3358, 3360, 3361, 3362, 3363, 3364, 3464, 3465, 3480, 3481, 3482, 3483, 3484, 3485, 3486, 3487,
-    3488, 3489, 3490, 3509, 3510, 3511, 3512, 3513, 3514, 3515, 3516, 3517, 3519, 3520, 3521, 3522,
-    3523, 3524, 3525, 3556, 3562, 3563, 3597, 3598, 3599, 3607, 3609, 3610, 3644, 3667, 3673, 3695,
-    3696, 3697, 3698, 3699, 3700, 3701, 3702, 3703, 3704, 3705, 3706, 3707, 3708, 3709, 3710, 3711,
-    3712, 3713, 3714, 3715, 3716, 3717, 3718, 3719, 3720, 3721, 3722, 3723, 3724, 3750, 3826, 3830,
-    3936, 3938, 4076, 4090, 4094, 4095, 4096, 4257, 4331, 4332, 4333, 4334, 4335, 4336, 4337, 4339,
-    4340, 4341, 4342, 4343, 4344, 4345, 4346, 4347, 4348, 4354, 4355, 4356, 4357, 4358, 4360, 4363,
-    4364, 4366, 4367, 4368, 4374, 4375, 4376, 4377, 4752, 4765, 4766, 4781, 4792, 4794, 4795, 4796,
-    5024, 5031, 5078, 5079, 5080, 5125, 5126, 5245, 5246, 5285, 5298, 5313, 5314, 5319, 5357, 5394,
-    5397, 5435, 5491, 5571, 5578, 5585, 5741, 5742, 5743, 5745, 5746, 5793, 5798, 5826, 5837, 5838,
-    5841, 5842, 5848, 5862, 6301,
+    1723, 1724, 1725, 1726, 1727, 1728, 1760, 1761, 1762, 1765, 1766, 1792, 1793, 1795, 1800, 1801,
+    1802, 1803, 1804, 1807, 1808, 1809, 1810, 1811, 1813, 1814, 1815, 1816, 1817, 1818, 1819, 1820,
+    1821, 1834, 1835, 1836, 1856, 2000, 2001, 2002, 2003, 2004, 2005, 2006, 2007, 2008, 2009, 2010,
+    2011, 2012, 2013, 2014, 2015, 2016, 2017, 2018, 2019, 2020, 2021, 2022, 2023, 2024, 2025, 2026,
+    2027, 2028, 2029, 2030, 2031, 2032, 2033, 2034, 2035, 2036, 2037, 2038, 2039, 2040, 2041, 2042,
+    2043, 2044, 2045, 2046, 2047, 2048, 2049, 2050, 2051, 2052, 2053, 2054, 2055, 2056, 2057, 2058,
+    2059, 2060, 2061, 2062, 2063, 2064, 2065, 2066, 2067, 2068, 2069, 2070, 2071, 2072, 2073, 2074,
+    2075, 2076, 2077, 2078, 2079, 2080, 2081, 2082, 2083, 2084, 2085, 2086, 2087, 2088, 2089, 2090,
+    2091, 2092, 2093, 2094, 2095, 2096, 2097, 2098, 2099, 2100, 2101, 2102, 2103, 2104, 2105, 2106,
+    2107, 2108, 2109, 2110, 2111, 2112, 2113, 2114, 2115, 2116, 2117, 2118, 2119, 2120, 2121, 2122,
+    2123, 2124, 2125, 2126, 2127, 2128, 2129, 2130, 2131, 2132, 2133, 2134, 2135, 2136, 2137, 2138,
+    2139, 2140, 2141, 2142, 2143, 2144, 2145, 2146, 2147, 2148, 2149, 2150, 2151, 2152, 2153, 2154,
+    2155, 2156, 2157, 2158, 2159, 2160, 2161, 2162, 2163, 2164, 2165, 2166, 2167, 2168, 2169, 2170,
+    2171, 2172, 2173, 2174, 2175, 2176, 2177, 2178, 2179, 2180, 2181, 2182, 2183, 2184, 2185, 2186,
+    2187, 2188, 2189, 2190, 2191, 2192, 2193, 2194, 2195, 2196, 2197, 2198, 2199, 2200, 2201, 2202,
+    2203, 2204, 2205, 2206, 2207, 2208, 2209, 2210, 2211, 2212, 2213, 2214, 2215, 2216, 2217, 2218,
+    2219, 2220, 2221, 2222, 2223, 2224, 2225, 2226, 2227, 2228, 2229, 2230, 2231, 2232, 2233, 2234,
+    2235, 2236, 2237, 2238, 2239, 2240, 2241, 2242, 2243, 2244, 2245, 2246, 2247, 2248, 2249, 2250,
+    2251, 2252, 2253, 2254, 2255, 2348, 2350, 2368, 2370, 2372, 2374, 2376, 2432, 2433, 2434, 2435,
+    2436, 2437, 2438, 2439, 2440, 2441, 2442, 2443, 2444, 2445, 2446, 2447, 2448, 2449, 2450, 2451,
+    2452, 2453, 2454, 2455, 2456, 2457, 2458, 2459, 2460, 2461, 2462, 2463, 2464, 2465, 2466, 2467,
+    2468, 2469, 2540, 2596, 2602, 2623, 2629, 2630, 2631, 2634, 2659, 2660, 2791, 2795, 2797, 2798,
+    2802, 2863, 2872, 2873, 2874, 2876, 2882, 2899, 2900, 2901, 2902, 2903, 2904, 2920, 2970, 2978,
+    2979, 3030, 3031, 3069, 3216, 3217, 3218, 3219, 3220, 3221, 3222, 3223, 3224, 3225, 3226, 3227,
+    3228, 3229, 3230, 3231, 3232, 3233, 3234, 3235, 3236, 3237, 3238, 3239, 3240, 3241, 3242, 3243,
+    3244, 3245, 3246, 3247, 3248, 3249, 3250, 3251, 3252, 3253, 3254, 3255, 3256, 3265, 3266, 3275,
+    3276, 3279, 3280, 3283, 3284, 3285, 3294, 3295, 3296, 3301, 3302, 3349, 3350, 3353, 3354, 3355,
+    3356, 3357, 3358, 3360, 3361, 3362, 3363, 3364, 3411, 3412, 3413, 3414, 3415, 3416, 3417, 3418,
+    3419, 3420, 3421, 3422, 3423, 3424, 3425, 3426, 3427, 3428, 3429, 3430, 3431, 3432, 3433, 3434,
+    3435, 3436, 3437, 3438, 3439, 3440, 3441, 3464, 3465, 3480, 3481, 3482, 3483, 3484, 3485, 3486,
+    3487, 3488, 3489, 3490, 3509, 3510, 3511, 3512, 3513, 3514, 3515, 3516, 3517, 3519, 3520, 3521,
+    3522, 3523, 3524, 3525, 3556, 3562, 3563, 3597, 3598, 3599, 3607, 3609, 3610, 3644, 3667, 3673,
+    3695, 3696, 3697, 3698, 3699, 3700, 3701, 3702, 3703, 3704, 3705, 3706, 3707, 3708, 3709, 3710,
+    3711, 3712, 3713, 3714, 3715, 3716, 3717, 3718, 3719, 3720, 3721, 3722, 3723, 3724, 3750, 3826,
+    3830, 3936, 3938, 3948, 4076, 4090, 4094, 4095, 4096, 4154, 4257, 4331, 4332, 4333, 4334, 4335,
+    4336, 4337, 4339, 4340, 4341, 4342, 4343, 4344, 4345, 4346, 4347, 4348, 4354, 4355, 4356, 4357,
+    4358, 4360, 4363, 4364, 4366, 4367, 4368, 4374, 4375, 4376, 4377, 4752, 4765, 4766, 4781, 4792,
+    4794, 4795, 4796, 5024, 5031, 5053, 5054, 5078, 5079, 5080, 5125, 5126, 5245, 5246, 5285, 5298,
+    5313, 5314, 5319, 5357, 5394, 5397, 5435, 5466, 5491, 5571, 5578, 5585, 5741, 5742, 5743, 5745,
+    5746, 5793, 5798, 5826, 5837, 5838, 5841, 5842, 5848, 5862, 6301,
 ];
 
 /// Where the name of each starts, and last where they end.
-pub const STARTS: [u32; 1425] = [
+pub const STARTS: [u32; 1463] = [
     0, 48, 76, 103, 134, 156, 191, 218, 260, 288, 316, 328, 353, 387, 404, 427, 465, 502, 528, 554,
     575, 595, 623, 646, 673, 698, 733, 765, 789, 807, 838, 856, 881, 905, 940, 974, 1003, 1031,
     1060, 1076, 1098, 1131, 1141, 1164, 1173, 1205, 1217, 1235, 1249, 1269, 1299, 1326, 1344, 1376,
@@ -152,53 +154,56 @@ pub const STARTS: [u32; 1425] = [
     20795, 20816, 20844, 20872, 20891, 20913, 20933, 20945, 20974, 20998, 21021, 21044, 21071,
     21102, 21128, 21172, 21208, 21229, 21238, 21283, 21319, 21353, 21390, 21421, 21440, 21472,
     21513, 21550, 21589, 21633, 21680, 21720, 21752, 21799, 21830, 21862, 21901, 21931, 21970,
-    22000, 22048, 22079, 22111, 22142, 22172, 22204, 22237, 22268, 22300, 22318, 22336, 22367,
-    22398, 22440, 22466, 22496, 22517, 22538, 22567, 22596, 22624, 22644, 22652, 22672, 22697,
-    22724, 22776, 22827, 22880, 22922, 22963, 22996, 23028, 23045, 23068, 23094, 23112, 23137,
-    23164, 23191, 23222, 23255, 23288, 23329, 23372, 23418, 23451, 23483, 23516, 23561, 23599,
-    23639, 23679, 23715, 23754, 23788, 23819, 23858, 23900, 23944, 23988, 24028, 24061, 24098,
-    24147, 24186, 24224, 24260, 24297, 24331, 24375, 24410, 24488, 24521, 24574, 24613, 24660,
-    24701, 24734, 24781, 24819, 24863, 24910, 24954, 24999, 25050, 25097, 25140, 25185, 25229,
-    25274, 25319, 25353, 25400, 25451, 25492, 25529, 25578, 25629, 25676, 25732, 25762, 25813,
-    25864, 25896, 25940, 25978, 26016, 26059, 26099, 26139, 26185, 26234, 26284, 26330, 26370,
-    26410, 26444, 26488, 26542, 26596, 26641, 26674, 26730, 26784, 26838, 26883, 26921, 26966,
-    27007, 27058, 27100, 27144, 27161, 27178, 27195, 27212, 27229, 27247, 27265, 27283, 27301,
-    27319, 27337, 27355, 27373, 27391, 27409, 27427, 27445, 27463, 27481, 27499, 27517, 27535,
-    27553, 27571, 27589, 27607, 27625, 27643, 27661, 27679, 27697, 27715, 27733, 27751, 27769,
-    27787, 27805, 27823, 27841, 27859, 27877, 27895, 27913, 27931, 27949, 27967, 27985, 28003,
-    28021, 28039, 28057, 28075, 28093, 28111, 28129, 28147, 28165, 28183, 28201, 28219, 28237,
-    28255, 28273, 28291, 28309, 28327, 28345, 28363, 28381, 28399, 28417, 28435, 28453, 28471,
-    28489, 28507, 28525, 28543, 28561, 28579, 28597, 28615, 28633, 28651, 28669, 28687, 28705,
-    28723, 28741, 28759, 28777, 28795, 28813, 28831, 28849, 28867, 28885, 28903, 28921, 28939,
-    28957, 28975, 28993, 29011, 29029, 29047, 29065, 29083, 29101, 29119, 29137, 29155, 29173,
-    29191, 29209, 29227, 29245, 29263, 29281, 29299, 29317, 29335, 29353, 29371, 29389, 29407,
-    29425, 29443, 29461, 29479, 29497, 29515, 29533, 29551, 29569, 29587, 29605, 29623, 29641,
-    29659, 29677, 29695, 29713, 29731, 29749, 29767, 29785, 29803, 29821, 29839, 29857, 29875,
-    29893, 29936, 29992, 30048, 30089, 30139, 30182, 30200, 30218, 30238, 30257, 30280, 30304,
-    30319, 30335, 30352, 30380, 30418, 30455, 30485, 30515, 30545, 30575, 30605, 30643, 30673,
-    30703, 30733, 30774, 30810, 30846, 30882, 30907, 30932, 30957, 30982, 31008, 31036, 31064,
-    31092, 31122, 31154, 31186, 31218, 31248, 31280, 31312, 31344, 31374, 31404, 31434, 31464,
-    31495, 31526, 31541, 31577, 31596, 31625, 31669, 31707, 31742, 31753, 31793, 31835, 31876,
-    31926, 31942, 31958, 31969, 31996, 32013, 32030, 32053, 32071, 32094, 32121, 32153, 32168,
-    32185, 32197, 32205, 32233, 32268, 32317, 32355, 32377, 32401, 32452, 32462, 32475, 32524,
-    32573, 32615, 32660, 32717, 32766, 32816, 32869, 32879, 32892, 32941, 32990, 33032, 33077,
-    33134, 33183, 33233, 33286, 33329, 33371, 33413, 33455, 33497, 33522, 33563, 33621, 33695,
-    33720, 33761, 33819, 33893, 33918, 33965, 34005, 34063, 34136, 34216, 34243, 34273, 34300,
-    34330, 34372, 34430, 34472, 34530, 34572, 34636, 34693, 34740, 34794, 34837, 34860, 34917,
-    34939, 34959, 34978, 34997, 35016, 35035, 35081, 35124, 35172, 35221, 35282, 35331, 35381,
-    35416, 35451, 35483, 35509, 35546, 35582, 35607, 35643, 35678, 35715, 35762, 35798, 35833,
-    35856, 35879, 35902, 35925, 35948, 35971, 36022, 36073, 36123, 36190, 36254, 36300, 36332,
-    36372, 36408, 36461, 36495, 36521, 36556, 36589, 36622, 36655, 36691, 36727, 36763, 36784,
-    36809, 36828, 36874, 36918, 36949, 36993, 37039, 37084, 37109, 37138, 37182, 37229, 37279,
-    37329, 37385, 37429, 37492, 37543, 37596, 37645, 37689, 37743, 37797, 37847, 37910, 37983,
-    38036, 38088, 38159, 38212, 38264, 38335, 38396, 38453, 38505, 38545, 38569, 38590, 38629,
-    38697, 38767, 38825, 38841, 38901, 38934, 39001, 39062, 39118, 39162, 39217, 39261, 39318,
-    39385, 39442, 39509, 39566, 39633, 39690, 39757, 39820, 39871, 39922, 39973, 40024, 40066,
-    40105, 40144, 40186, 40237, 40287, 40343, 40397, 40456, 40506, 40537, 40582, 40647, 40712,
-    40757, 40784, 40819, 40862, 40912, 40959, 41006, 41039, 41067, 41105, 41128, 41151, 41211,
-    41258, 41288, 41352, 41380, 41416, 41475, 41527, 41570, 41631, 41679, 41734, 41779, 41810,
-    41852, 41887, 41946, 41990, 42046, 42108, 42136, 42204, 42256, 42265, 42308, 42348, 42381,
-    42422, 42467, 42492,
+    22000, 22048, 22079, 22111, 22142, 22172, 22204, 22237, 22268, 22300, 22332, 22350, 22368,
+    22399, 22430, 22472, 22498, 22528, 22549, 22570, 22599, 22628, 22656, 22676, 22684, 22704,
+    22729, 22756, 22808, 22859, 22912, 22954, 22995, 23028, 23060, 23093, 23110, 23133, 23159,
+    23177, 23202, 23229, 23256, 23287, 23320, 23353, 23394, 23437, 23483, 23516, 23548, 23581,
+    23626, 23664, 23704, 23744, 23780, 23819, 23853, 23884, 23923, 23965, 24009, 24053, 24093,
+    24126, 24163, 24212, 24251, 24289, 24325, 24362, 24396, 24440, 24475, 24553, 24586, 24639,
+    24678, 24725, 24766, 24799, 24846, 24884, 24928, 24975, 25019, 25064, 25115, 25162, 25205,
+    25250, 25294, 25339, 25384, 25418, 25465, 25516, 25557, 25594, 25643, 25694, 25741, 25797,
+    25827, 25878, 25929, 25961, 26005, 26043, 26081, 26124, 26164, 26204, 26250, 26299, 26349,
+    26395, 26435, 26475, 26509, 26553, 26607, 26661, 26706, 26739, 26795, 26849, 26903, 26948,
+    26986, 27031, 27072, 27123, 27165, 27209, 27226, 27243, 27260, 27277, 27294, 27312, 27330,
+    27348, 27366, 27384, 27402, 27420, 27438, 27456, 27474, 27492, 27510, 27528, 27546, 27564,
+    27582, 27600, 27618, 27636, 27654, 27672, 27690, 27708, 27726, 27744, 27762, 27780, 27798,
+    27816, 27834, 27852, 27870, 27888, 27906, 27924, 27942, 27960, 27978, 27996, 28014, 28032,
+    28050, 28068, 28086, 28104, 28122, 28140, 28158, 28176, 28194, 28212, 28230, 28248, 28266,
+    28284, 28302, 28320, 28338, 28356, 28374, 28392, 28410, 28428, 28446, 28464, 28482, 28500,
+    28518, 28536, 28554, 28572, 28590, 28608, 28626, 28644, 28662, 28680, 28698, 28716, 28734,
+    28752, 28770, 28788, 28806, 28824, 28842, 28860, 28878, 28896, 28914, 28932, 28950, 28968,
+    28986, 29004, 29022, 29040, 29058, 29076, 29094, 29112, 29130, 29148, 29166, 29184, 29202,
+    29220, 29238, 29256, 29274, 29292, 29310, 29328, 29346, 29364, 29382, 29400, 29418, 29436,
+    29454, 29472, 29490, 29508, 29526, 29544, 29562, 29580, 29598, 29616, 29634, 29652, 29670,
+    29688, 29706, 29724, 29742, 29760, 29778, 29796, 29814, 29832, 29850, 29868, 29886, 29904,
+    29922, 29940, 29958, 30001, 30057, 30113, 30154, 30204, 30247, 30265, 30283, 30303, 30322,
+    30345, 30369, 30384, 30400, 30417, 30445, 30483, 30520, 30550, 30580, 30610, 30640, 30670,
+    30708, 30738, 30768, 30798, 30839, 30875, 30911, 30947, 30972, 30997, 31022, 31047, 31073,
+    31101, 31129, 31157, 31187, 31219, 31251, 31283, 31313, 31345, 31377, 31409, 31439, 31469,
+    31499, 31529, 31560, 31591, 31606, 31642, 31661, 31690, 31734, 31772, 31807, 31818, 31858,
+    31900, 31941, 31991, 32007, 32023, 32034, 32061, 32078, 32095, 32118, 32136, 32159, 32186,
+    32218, 32233, 32250, 32262, 32270, 32298, 32333, 32382, 32420, 32442, 32466, 32517, 32527,
+    32540, 32589, 32638, 32680, 32725, 32782, 32831, 32881, 32934, 32944, 32957, 33006, 33055,
+    33097, 33142, 33199, 33248, 33298, 33351, 33394, 33436, 33478, 33520, 33562, 33587, 33628,
+    33686, 33760, 33785, 33826, 33884, 33958, 33983, 34030, 34070, 34128, 34201, 34281, 34308,
+    34338, 34365, 34395, 34437, 34495, 34537, 34595, 34637, 34701, 34758, 34805, 34859, 34902,
+    34925, 34982, 35004, 35024, 35043, 35062, 35081, 35100, 35146, 35189, 35237, 35286, 35347,
+    35396, 35446, 35463, 35484, 35505, 35528, 35549, 35570, 35593, 35614, 35635, 35658, 35679,
+    35700, 35723, 35744, 35765, 35788, 35809, 35830, 35853, 35874, 35895, 35918, 35939, 35960,
+    35983, 36004, 36025, 36048, 36070, 36092, 36116, 36151, 36186, 36218, 36244, 36281, 36317,
+    36342, 36378, 36413, 36450, 36497, 36533, 36568, 36591, 36614, 36637, 36660, 36683, 36706,
+    36757, 36808, 36858, 36925, 36989, 37035, 37067, 37107, 37143, 37196, 37230, 37256, 37291,
+    37324, 37357, 37390, 37426, 37462, 37498, 37519, 37544, 37563, 37609, 37653, 37684, 37728,
+    37774, 37819, 37844, 37873, 37917, 37964, 38014, 38064, 38120, 38164, 38227, 38278, 38331,
+    38380, 38424, 38478, 38532, 38582, 38645, 38718, 38771, 38823, 38894, 38947, 38999, 39070,
+    39131, 39188, 39240, 39280, 39304, 39338, 39359, 39398, 39466, 39536, 39594, 39634, 39650,
+    39710, 39743, 39810, 39871, 39927, 39971, 40026, 40070, 40127, 40194, 40251, 40318, 40375,
+    40442, 40499, 40566, 40629, 40680, 40731, 40782, 40833, 40875, 40914, 40953, 40995, 41046,
+    41096, 41152, 41206, 41265, 41315, 41346, 41391, 41456, 41521, 41566, 41593, 41628, 41671,
+    41721, 41768, 41815, 41841, 41873, 41906, 41934, 41972, 41995, 42018, 42078, 42125, 42155,
+    42219, 42247, 42283, 42342, 42394, 42437, 42498, 42546, 42614, 42669, 42714, 42745, 42787,
+    42822, 42881, 42925, 42981, 43043, 43071, 43139, 43191, 43200, 43243, 43283, 43316, 43357,
+    43402, 43427,
 ];
 
 /// The names, one behind the other.
@@ -426,209 +431,218 @@ er restriction switchoperator seat direction switchdriver's demand retarder perc
 election, non-engineactual maximum available retarder percent torquerelative level, front axle leftr\
 elative level, front axle rightrelative level, rear axle rightrelative level, rear axle leftbellow p\
 ressure, front axle leftbellow pressure, front axle rightbellow pressure, rear axle leftbellow press\
-ure, rear axle rightreagent tank levelhydraulic pressurerequested fuel valve 1 positionrequested fue\
-l valve 2 positiontractor-mounted trailer ABS warning signalATC/ASR information signalalternator cur\
-rent, high rangebattery 1 temperaturebattery 2 temperatureintake manifold 5 temperatureintake manifo\
-ld 6 temperatureengine start enable device 2steering wheel angleyaw ratelateral accelerationlongitud\
-inal accelerationsteering wheel turn countervehicle dynamic stability control information signalvehi\
-cle dynamic stability control fully operationalvehicle dynamic stability control brake light request\
-roll over prevention engine control activeroll over prevention brake control activeyaw control engin\
-e control activeyaw control brake control activeposition of doorstotal average fuel ratetotal averag\
-e fuel economytrailer ABS statusoperator seat belt switchsource address 0 (engine 1)source address \
-1 (engine 2)source address 2 (turbocharger)source address 3 (transmission 1)source address 4 (transm\
-ission 2)source address 5 (shift console, primary)source address 6 (shift console, secondary)source \
-address 7 (power takeoff, main or rear)source address 8 (axle, steering)source address 9 (axle, driv\
-e 1)source address 10 (axle, drive 2)source address 11 (brakes, system controller)source address 12 \
-(brakes, steer axle)source address 13 (brakes, drive axle 1)source address 14 (brakes, drive axle 2)\
-source address 15 (retarder, engine)source address 16 (retarder, driveline)source address 17 (cruis\
-e control)source address 18 (fuel system)source address 19 (steering controller)source address 20 (s\
-uspension, steer axle)source address 21 (suspension, drive axle 1)source address 22 (suspension, dri\
-ve axle 2)source address 23 (instrument cluster 1)source address 24 (trip recorder)source address 2\
-5 (climate control 1)source address 26 (alternator or charging system)source address 27 (aerodynami\
-c control)source address 28 (vehicle navigation)source address 29 (vehicle security)source address 3\
-0 (electrical system)source address 31 (starter system)source address 32 (tractor-trailer bridge 1)s\
-ource address 33 (body controller)source address 34 (auxiliary valve control or engine air system va\
-lve control)source address 35 (hitch control)source address 36 (power takeoff, front or secondary)so\
-urce address 37 (off vehicle gateway)source address 38 (virtual terminal in the cab)source address 3\
-9 (management computer 1)source address 40 (cab display 1)source address 41 (retarder, exhaust, engi\
-ne 1)source address 42 (headway controller)source address 43 (on-board diagnostic unit)source addres\
-s 44 (retarder, exhaust, engine 2)source address 45 (endurance braking system)source address 46 (hyd\
-raulic pump controller)source address 47 (suspension, system controller 1)source address 48 (pneumat\
-ic system controller)source address 49 (cab controller, primary)source address 50 (cab controller, s\
-econdary)source address 51 (tire pressure controller)source address 52 (ignition control module 1)so\
-urce address 53 (ignition control module 2)source address 54 (seat control 1)source address 55 (ligh\
-ting, operator controls)source address 56 (rear axle steering controller 1)source address 57 (water \
-pump controller)source address 58 (climate control 2)source address 59 (transmission display, primar\
-y)source address 60 (transmission display, secondary)source address 61 (exhaust emission controller)\
-source address 62 (vehicle dynamic stability controller)source address 63 (oil sensor)source addres\
-s 64 (suspension, system controller 2)source address 65 (information system controller 1)source addr\
-ess 66 (ramp control)source address 67 (clutch or converter unit)source address 68 (auxiliary heate\
-r 1)source address 69 (auxiliary heater 2)source address 70 (engine valve controller)source address \
-71 (chassis controller 1)source address 72 (chassis controller 2)source address 73 (propulsion batte\
-ry charger)source address 74 (communications unit, cellular)source address 75 (communications unit, \
-satellite)source address 76 (communications unit, radio)source address 77 (steering column unit)sour\
-ce address 78 (fan drive controller)source address 79 (seat control 2)source address 80 (parking bra\
-ke controller)source address 81 (aftertreatment 1 system gas intake)source address 82 (aftertreatmen\
-t 1 system gas outlet)source address 83 (safety restraint system 1)source address 84 (cab display 2)\
-source address 85 (diesel particulate filter controller)source address 86 (aftertreatment 2 system g\
-as intake)source address 87 (aftertreatment 2 system gas outlet)source address 88 (safety restraint \
-system 2)source address 89 (atmospheric sensor)source address 90 (powertrain control module)source a\
-ddress 91 (power systems manager)source address 92 (engine injection control module)source address 9\
-3 (fire protection system)source address 94 (driver impairment device)source address 95source addres\
-s 96source address 97source address 98source address 99source address 100source address 101source ad\
-dress 102source address 103source address 104source address 105source address 106source address 107s\
-ource address 108source address 109source address 110source address 111source address 112source addr\
-ess 113source address 114source address 115source address 116source address 117source address 118sou\
-rce address 119source address 120source address 121source address 122source address 123source addres\
-s 124source address 125source address 126source address 127source address 128source address 129sourc\
-e address 130source address 131source address 132source address 133source address 134source address \
-135source address 136source address 137source address 138source address 139source address 140source \
-address 141source address 142source address 143source address 144source address 145source address 14\
-6source address 147source address 148source address 149source address 150source address 151source ad\
-dress 152source address 153source address 154source address 155source address 156source address 157s\
-ource address 158source address 159source address 160source address 161source address 162source addr\
-ess 163source address 164source address 165source address 166source address 167source address 168sou\
-rce address 169source address 170source address 171source address 172source address 173source addres\
-s 174source address 175source address 176source address 177source address 178source address 179sourc\
-e address 180source address 181source address 182source address 183source address 184source address \
-185source address 186source address 187source address 188source address 189source address 190source \
-address 191source address 192source address 193source address 194source address 195source address 19\
-6source address 197source address 198source address 199source address 200source address 201source ad\
-dress 202source address 203source address 204source address 205source address 206source address 207s\
-ource address 208source address 209source address 210source address 211source address 212source addr\
-ess 213source address 214source address 215source address 216source address 217source address 218sou\
-rce address 219source address 220source address 221source address 222source address 223source addres\
-s 224source address 225source address 226source address 227source address 228source address 229sourc\
-e address 230source address 231source address 232source address 233source address 234source address \
-235source address 236source address 237source address 238source address 239source address 240source \
-address 241source address 242source address 243source address 244source address 245source address 24\
-6source address 247source address 248 (file server or printer)source address 249 (off-board diagnost\
-ic service tool 1)source address 250 (off-board diagnostic service tool 2)source address 251 (on-boa\
-rd data logger)source address 252 (reserved for experimental use)source address 253 (reserved for th\
-e maker)source address 254source address 255high beam head lightlow beam head lightleft turn signal \
-lightsright turn signal lightsleft stop lightright stop lightcenter stop lightengine demand percent \
-torqueright manifold exhaust gas temperatureleft manifold exhaust gas temperaturesea water pump outl\
-et pressuregenerator average AC frequencygenerator phase A AC frequencygenerator phase B AC frequenc\
-ygenerator phase C AC frequencygenerator average line to line voltagegenerator phase A to B voltageg\
-enerator phase B to C voltagegenerator phase C to A voltagegenerator average line to neutral voltage\
-generator phase A to neutral voltagegenerator phase B to neutral voltagegenerator phase C to neutra\
-l voltagegenerator average currentgenerator phase A currentgenerator phase B currentgenerator phase \
-C currentgenerator total real powergenerator phase A real powergenerator phase B real powergenerato\
-r phase C real powergenerator total reactive powergenerator phase A reactive powergenerator phase B \
-reactive powergenerator phase C reactive powergenerator total apparent powergenerator phase A appare\
-nt powergenerator phase B apparent powergenerator phase C apparent powergenerator overall power fact\
-orgenerator phase A power factorgenerator phase B power factorgenerator phase C power factorgenerato\
-r total energy exportedgenerator total energy importedrequested groupselected maximum vehicle speed \
-limithydraulic oil levelaccelerator pedal 1 channel 2turbocharger 1 compressor outlet temperaturecha\
-rge air cooler 1 outlet temperaturecharge air cooler 1 outlet pressurepower relayexhaust gas recircu\
-lation mass flow rateexhaust gas recirculation 2 mass flow rateexhaust gas recirculation 1 valve con\
-trolvariable geometry turbocharger 1 actuator positioninjector group 1injector group 2data memoryfro\
-nt operator wiper switchmain light switchwork light switchhigh or low beam switchturn signal switcha\
-lternate rating selectstarter motor relay controltransmission engine crank enableECU part numberECU \
-serial numberECU locationECU typeexternal acceleration demandaccelerator pedal 2 low idle switchesti\
-mated engine parasitic losses, percent torquevehicle acceleration rate limit statustorque converter \
-ratioreagent tank temperaturedistance travelled while the malfunction lamp is onintake NOxintake oxy\
-genaftertreatment 1 intake gas sensor power in rangeaftertreatment 1 intake gas sensor at temperatur\
-eaftertreatment 1 intake NOx reading stableaftertreatment 1 intake oxygen reading stableaftertreatme\
-nt 1 intake gas sensor heater preliminary FMIaftertreatment 1 intake gas sensor heater controlaftert\
-reatment 1 intake NOx sensor preliminary FMIaftertreatment 1 intake oxygen sensor preliminary FMIout\
-let NOxoutlet oxygenaftertreatment 1 outlet gas sensor power in rangeaftertreatment 1 outlet gas sen\
-sor at temperatureaftertreatment 1 outlet NOx reading stableaftertreatment 1 outlet oxygen reading s\
-tableaftertreatment 1 outlet gas sensor heater preliminary FMIaftertreatment 1 outlet gas sensor hea\
-ter controlaftertreatment 1 outlet NOx sensor preliminary FMIaftertreatment 1 outlet oxygen sensor p\
-reliminary FMIaftertreatment 1 exhaust gas mass flow rateaftertreatment 1 intake dew point detecteda\
-ftertreatment 1 outlet dew point detectedaftertreatment 2 intake dew point detectedaftertreatment 2 \
-outlet dew point detectedexhaust gas temperature 1particulate filter intake gas temperatureaftertrea\
-tment 1 exhaust gas temperature 1 preliminary FMIaftertreatment 1 particulate filter intake gas temp\
-erature preliminary FMIexhaust gas temperature 3particulate filter outlet gas temperatureaftertreatm\
-ent 1 exhaust gas temperature 3 preliminary FMIaftertreatment 1 particulate filter outlet gas temper\
-ature preliminary FMIexhaust gas temperature 2particulate filter intermediate gas temperatureparticu\
-late filter differential pressureaftertreatment 1 exhaust gas temperature 2 preliminary FMIaftertrea\
-tment 1 particulate filter differential pressure preliminary FMIaftertreatment 1 particulate filter \
-intermediate gas temperature preliminary FMIaftertreatment 2 intake NOxaftertreatment 2 intake oxyge\
-naftertreatment 2 outlet NOxaftertreatment 2 outlet oxygenaftertreatment 2 exhaust gas temperature 1\
-aftertreatment 2 particulate filter intake gas temperatureaftertreatment 2 exhaust gas temperature 3\
-aftertreatment 2 particulate filter outlet gas temperatureaftertreatment 2 exhaust gas temperature 2\
-aftertreatment 2 particulate filter intermediate gas temperatureaftertreatment 2 particulate filter \
-differential pressuredistance since diagnostic trouble codes clearedminutes run by engine while the \
-malfunction lamp is ontime since diagnostic trouble codes clearedtime since engine startnumber of wa\
-rm-ups since diagnostic trouble codes clearedTSC1 transmission rateTSC1 control purposealternator 1 \
-statusalternator 2 statusalternator 3 statusalternator 4 statusactual maximum available engine perce\
-nt torqueexhaust gas recirculation 1 intake pressureaftertreatment 1 diesel exhaust fluid controller\
-aftertreatment 1 diesel exhaust fluid dosing unitaftertreatment 1 diesel exhaust fluid dosing unit i\
-nput linesaftertreatment 1 diesel exhaust fluid tank heateraftertreatment 1 diesel exhaust fluid tan\
-k qualitythrottle actuator 1 control commandthrottle actuator 2 control commandaftertreatment 1 fue\
-l pressure 1aftertreatment 1 fuel rateaftertreatment 1 fuel enable actuatoraftertreatment 1 regenera\
-tion statusaftertreatment 1 ignitionaftertreatment 1 supply air pressureaftertreatment 1 purge air p\
-ressureaftertreatment 1 air pressure controlaftertreatment 1 air pressure actuator positionaftertrea\
-tment 1 air enable actuatoraftertreatment 1 purge air actuatorsensor supply voltage 1sensor supply v\
-oltage 2sensor supply voltage 3sensor supply voltage 4sensor supply voltage 5sensor supply voltage 6\
-aftertreatment 1 diesel exhaust fluid temperature 2aftertreatment 1 diesel exhaust fluid concentrati\
-onaftertreatment 1 diesel exhaust fluid tank level 2aftertreatment 1 diesel exhaust fluid temperatur\
-e 2 preliminary FMIaftertreatment 1 diesel exhaust fluid properties preliminary FMIaftertreatment 1 \
-diesel exhaust fluid propertyaftertreatment 1 total fuel usedaftertreatment 1 total regeneration tim\
-eaftertreatment 1 total disabled timeaftertreatment 1 total number of active regenerationsaftertreat\
-ment 1 hydrocarbon doserintake manifold 2 pressureintake manifold 1 absolute pressureECU power outpu\
-t supply voltage 1ECU power output supply voltage 2ECU power output supply voltage 3engine emergenc\
-y shutdown indicationparticulate filter 1 intake pressureparticulate filter 1 outlet pressureengine \
-derate requestengine air shutoff statusthrottle 2 positionparticulate filter regeneration inhibit sw\
-itchparticulate filter regeneration force switchparticulate filter lamp commandexhaust system high t\
-emperature lamp commandparticulate filter passive regeneration statusparticulate filter active regen\
-eration statusparticulate filter statusregeneration inhibited statusregeneration inhibited by the in\
-hibit switchregeneration inhibited due to clutch disengagedregeneration inhibited due to service bra\
-ke activeregeneration inhibited due to power takeoff activeregeneration inhibited due to accelerato\
-r pedal off idleregeneration inhibited due to out of neutralregeneration inhibited due to vehicle sp\
-eed above allowed speedregeneration inhibited due to parking brake not setregeneration inhibited du\
-e to low exhaust temperatureregeneration inhibited due to system fault activeregeneration inhibited \
-due to system timeoutregeneration inhibited due to temporary system lockoutregeneration inhibited du\
-e to permanent system lockoutregeneration inhibited due to engine not warmed upregeneration inhibite\
-d due to vehicle speed below allowed speedparticulate filter automatic active regeneration initiatio\
-n configurationaftertreatment 1 particulate filter soot load percentaftertreatment 1 particulate fil\
-ter ash load percentaftertreatment 1 particulate filter time since last active regenerationaftertrea\
-tment 2 particulate filter soot load percentaftertreatment 2 particulate filter ash load percentafte\
-rtreatment 2 particulate filter time since last active regenerationparticulate filter conditions no\
-t met for active regenerationaftertreatment 1 diesel exhaust fluid average consumptionaftertreatmen\
-t 1 secondary air differential pressureaftertreatment particulate filter systemgenerator governing b\
-iascoolant temperature 2NOx limits exceeded, root cause unknownNOx limits exceeded due to insufficie\
-nt diesel exhaust fluid qualityNOx limits exceeded due to interruption of diesel exhaust fluid dosin\
-gNOx limits exceeded due to empty diesel exhaust fluid tankinjector group 3aftertreatment 1 diesel e\
-xhaust fluid actual dosing quantityaftertreatment 1 SCR system stateaftertreatment 1 diesel exhaust \
-fluid actual quantity of integratoraftertreatment 1 diesel exhaust fluid doser absolute pressureafte\
-rtreatment 1 SCR dosing air assist absolute pressureaftertreatment 1 SCR dosing air assist valveafte\
-rtreatment 1 diesel exhaust fluid doser temperatureaftertreatment 1 SCR feedback control statusafter\
-treatment 1 diesel exhaust fluid line heater 1 stateaftertreatment 1 diesel exhaust fluid line heate\
-r 1 preliminary FMIaftertreatment 1 diesel exhaust fluid line heater 2 stateaftertreatment 1 diesel \
-exhaust fluid line heater 2 preliminary FMIaftertreatment 1 diesel exhaust fluid line heater 3 state\
-aftertreatment 1 diesel exhaust fluid line heater 3 preliminary FMIaftertreatment 1 diesel exhaust f\
-luid line heater 4 stateaftertreatment 1 diesel exhaust fluid line heater 4 preliminary FMIaftertrea\
-tment 1 diesel exhaust fluid requested dosing quantityaftertreatment 1 diesel exhaust fluid line hea\
-ter 1aftertreatment 1 diesel exhaust fluid line heater 2aftertreatment 1 diesel exhaust fluid line h\
-eater 3aftertreatment 1 diesel exhaust fluid line heater 4aftertreatment 1 SCR differential pressure\
-aftertreatment 1 SCR intake temperatureaftertreatment 1 SCR outlet temperatureaftertreatment 1 SCR c\
-onversion efficiencyaftertreatment 1 diesel exhaust fluid tank 1 heateraftertreatment 1 diesel exhau\
-st fluid tank 2 levelaftertreatment 1 diesel exhaust fluid tank 2 temperatureaftertreatment 1 diese\
-l exhaust fluid pump motor speedaftertreatment 1 diesel exhaust fluid pump drive percentageaftertrea\
-tment 1 diesel exhaust fluid return valveaftertreatment 1 outlet ammoniaexhaust gas recirculation 1 \
-cooler efficiencyaftertreatment 1 diesel oxidation catalyst intake gas temperatureaftertreatment 1 d\
-iesel oxidation catalyst outlet gas temperatureaftertreatment 1 particulate filter soot massaftertre\
-atment 1 SCR systemaftertreatment 1 SCR system missingaftertreatment 1 particulate filter missingaft\
-ertreatment 1 diesel oxidation catalyst missingaftertreatment 1 intake NOx sensor heater ratioaftert\
-reatment 1 outlet NOx sensor heater ratioengine amber warning lamp commandengine red stop lamp comma\
-ndOBD malfunction indicator lamp commandsensor supply voltage 7sensor supply voltage 8aftertreatmen\
-t diesel exhaust fluid tank low level indicatoraftertreatment SCR operator inducement severitycharg\
-e air cooler 1 efficiencyaftertreatment 1 diesel oxidation catalyst conversion efficiencycommanded f\
-uel rail pressurecommanded injection control pressureaftertreatment 1 particulate filter incomplete \
-regenerationfuel injection quantity error for multiple cylindersaftertreatment 1 diesel exhaust flui\
-d doseraftertreatment 1 particulate filter regeneration too frequentaftertreatment 1 diesel exhaust \
-fluid pump stateaftertreatment 1 diesel exhaust fluid line heater relayhigh pressure fuel rail press\
-ure relief valvefuel delivery absolute pressureinjector metering rail 1 cranking pressureaftertreatm\
-ent 1 outlet soot sensoraftertreatment particulate filter temperature sensor moduleaftertreatment SC\
-R temperature sensor moduleaftertreatment 1 diesel exhaust fluid dosing unit heateraftertreatment 1 \
-diesel exhaust fluid dosing unit heater relaydesired engine fueling stateaftertreatment 1 diesel exh\
-aust fluid dosing unit heater temperatureemission control system operator inducement severityfuel ty\
-peexhaust gas recirculation valve malfunctiondiesel exhaust fluid quality malfunctionSCR monitoring \
-system malfunctionaftertreatment 1 SCR intermediate ammoniaaftertreatment 1 SCR intermediate tempera\
-turewater in fuel indicator 2";
+ure, rear axle rightgross combination vehicle weightreagent tank levelhydraulic pressurerequested fu\
+el valve 1 positionrequested fuel valve 2 positiontractor-mounted trailer ABS warning signalATC/ASR \
+information signalalternator current, high rangebattery 1 temperaturebattery 2 temperatureintake man\
+ifold 5 temperatureintake manifold 6 temperatureengine start enable device 2steering wheel angleyaw \
+ratelateral accelerationlongitudinal accelerationsteering wheel turn countervehicle dynamic stabilit\
+y control information signalvehicle dynamic stability control fully operationalvehicle dynamic stabi\
+lity control brake light requestroll over prevention engine control activeroll over prevention brak\
+e control activeyaw control engine control activeyaw control brake control activeramp or wheel chai\
+r lift positionposition of doorstotal average fuel ratetotal average fuel economytrailer ABS statuso\
+perator seat belt switchsource address 0 (engine 1)source address 1 (engine 2)source address 2 (turb\
+ocharger)source address 3 (transmission 1)source address 4 (transmission 2)source address 5 (shift c\
+onsole, primary)source address 6 (shift console, secondary)source address 7 (power takeoff, main or \
+rear)source address 8 (axle, steering)source address 9 (axle, drive 1)source address 10 (axle, driv\
+e 2)source address 11 (brakes, system controller)source address 12 (brakes, steer axle)source addres\
+s 13 (brakes, drive axle 1)source address 14 (brakes, drive axle 2)source address 15 (retarder, engi\
+ne)source address 16 (retarder, driveline)source address 17 (cruise control)source address 18 (fuel \
+system)source address 19 (steering controller)source address 20 (suspension, steer axle)source addre\
+ss 21 (suspension, drive axle 1)source address 22 (suspension, drive axle 2)source address 23 (instr\
+ument cluster 1)source address 24 (trip recorder)source address 25 (climate control 1)source addres\
+s 26 (alternator or charging system)source address 27 (aerodynamic control)source address 28 (vehicl\
+e navigation)source address 29 (vehicle security)source address 30 (electrical system)source addres\
+s 31 (starter system)source address 32 (tractor-trailer bridge 1)source address 33 (body controller)\
+source address 34 (auxiliary valve control or engine air system valve control)source address 35 (hit\
+ch control)source address 36 (power takeoff, front or secondary)source address 37 (off vehicle gatew\
+ay)source address 38 (virtual terminal in the cab)source address 39 (management computer 1)source ad\
+dress 40 (cab display 1)source address 41 (retarder, exhaust, engine 1)source address 42 (headway co\
+ntroller)source address 43 (on-board diagnostic unit)source address 44 (retarder, exhaust, engine 2)\
+source address 45 (endurance braking system)source address 46 (hydraulic pump controller)source addr\
+ess 47 (suspension, system controller 1)source address 48 (pneumatic system controller)source addres\
+s 49 (cab controller, primary)source address 50 (cab controller, secondary)source address 51 (tire p\
+ressure controller)source address 52 (ignition control module 1)source address 53 (ignition control \
+module 2)source address 54 (seat control 1)source address 55 (lighting, operator controls)source add\
+ress 56 (rear axle steering controller 1)source address 57 (water pump controller)source address 58 \
+(climate control 2)source address 59 (transmission display, primary)source address 60 (transmission \
+display, secondary)source address 61 (exhaust emission controller)source address 62 (vehicle dynami\
+c stability controller)source address 63 (oil sensor)source address 64 (suspension, system controlle\
+r 2)source address 65 (information system controller 1)source address 66 (ramp control)source addres\
+s 67 (clutch or converter unit)source address 68 (auxiliary heater 1)source address 69 (auxiliary he\
+ater 2)source address 70 (engine valve controller)source address 71 (chassis controller 1)source add\
+ress 72 (chassis controller 2)source address 73 (propulsion battery charger)source address 74 (commu\
+nications unit, cellular)source address 75 (communications unit, satellite)source address 76 (commun\
+ications unit, radio)source address 77 (steering column unit)source address 78 (fan drive controller\
+)source address 79 (seat control 2)source address 80 (parking brake controller)source address 81 (af\
+tertreatment 1 system gas intake)source address 82 (aftertreatment 1 system gas outlet)source addres\
+s 83 (safety restraint system 1)source address 84 (cab display 2)source address 85 (diesel particula\
+te filter controller)source address 86 (aftertreatment 2 system gas intake)source address 87 (aftert\
+reatment 2 system gas outlet)source address 88 (safety restraint system 2)source address 89 (atmosph\
+eric sensor)source address 90 (powertrain control module)source address 91 (power systems manager)so\
+urce address 92 (engine injection control module)source address 93 (fire protection system)source ad\
+dress 94 (driver impairment device)source address 95source address 96source address 97source addres\
+s 98source address 99source address 100source address 101source address 102source address 103source \
+address 104source address 105source address 106source address 107source address 108source address 10\
+9source address 110source address 111source address 112source address 113source address 114source ad\
+dress 115source address 116source address 117source address 118source address 119source address 120s\
+ource address 121source address 122source address 123source address 124source address 125source addr\
+ess 126source address 127source address 128source address 129source address 130source address 131sou\
+rce address 132source address 133source address 134source address 135source address 136source addres\
+s 137source address 138source address 139source address 140source address 141source address 142sourc\
+e address 143source address 144source address 145source address 146source address 147source address \
+148source address 149source address 150source address 151source address 152source address 153source \
+address 154source address 155source address 156source address 157source address 158source address 15\
+9source address 160source address 161source address 162source address 163source address 164source ad\
+dress 165source address 166source address 167source address 168source address 169source address 170s\
+ource address 171source address 172source address 173source address 174source address 175source addr\
+ess 176source address 177source address 178source address 179source address 180source address 181sou\
+rce address 182source address 183source address 184source address 185source address 186source addres\
+s 187source address 188source address 189source address 190source address 191source address 192sourc\
+e address 193source address 194source address 195source address 196source address 197source address \
+198source address 199source address 200source address 201source address 202source address 203source \
+address 204source address 205source address 206source address 207source address 208source address 20\
+9source address 210source address 211source address 212source address 213source address 214source ad\
+dress 215source address 216source address 217source address 218source address 219source address 220s\
+ource address 221source address 222source address 223source address 224source address 225source addr\
+ess 226source address 227source address 228source address 229source address 230source address 231sou\
+rce address 232source address 233source address 234source address 235source address 236source addres\
+s 237source address 238source address 239source address 240source address 241source address 242sourc\
+e address 243source address 244source address 245source address 246source address 247source address \
+248 (file server or printer)source address 249 (off-board diagnostic service tool 1)source address 2\
+50 (off-board diagnostic service tool 2)source address 251 (on-board data logger)source address 252 \
+(reserved for experimental use)source address 253 (reserved for the maker)source address 254source a\
+ddress 255high beam head lightlow beam head lightleft turn signal lightsright turn signal lightslef\
+t stop lightright stop lightcenter stop lightengine demand percent torqueright manifold exhaust gas \
+temperatureleft manifold exhaust gas temperaturesea water pump outlet pressuregenerator average AC f\
+requencygenerator phase A AC frequencygenerator phase B AC frequencygenerator phase C AC frequencyge\
+nerator average line to line voltagegenerator phase A to B voltagegenerator phase B to C voltagegene\
+rator phase C to A voltagegenerator average line to neutral voltagegenerator phase A to neutral volt\
+agegenerator phase B to neutral voltagegenerator phase C to neutral voltagegenerator average current\
+generator phase A currentgenerator phase B currentgenerator phase C currentgenerator total real powe\
+rgenerator phase A real powergenerator phase B real powergenerator phase C real powergenerator tota\
+l reactive powergenerator phase A reactive powergenerator phase B reactive powergenerator phase C re\
+active powergenerator total apparent powergenerator phase A apparent powergenerator phase B apparen\
+t powergenerator phase C apparent powergenerator overall power factorgenerator phase A power factorg\
+enerator phase B power factorgenerator phase C power factorgenerator total energy exportedgenerator \
+total energy importedrequested groupselected maximum vehicle speed limithydraulic oil levelaccelerat\
+or pedal 1 channel 2turbocharger 1 compressor outlet temperaturecharge air cooler 1 outlet temperatu\
+recharge air cooler 1 outlet pressurepower relayexhaust gas recirculation mass flow rateexhaust gas \
+recirculation 2 mass flow rateexhaust gas recirculation 1 valve controlvariable geometry turbocharge\
+r 1 actuator positioninjector group 1injector group 2data memoryfront operator wiper switchmain ligh\
+t switchwork light switchhigh or low beam switchturn signal switchalternate rating selectstarter mot\
+or relay controltransmission engine crank enableECU part numberECU serial numberECU locationECU type\
+external acceleration demandaccelerator pedal 2 low idle switchestimated engine parasitic losses, pe\
+rcent torquevehicle acceleration rate limit statustorque converter ratioreagent tank temperaturedist\
+ance travelled while the malfunction lamp is onintake NOxintake oxygenaftertreatment 1 intake gas se\
+nsor power in rangeaftertreatment 1 intake gas sensor at temperatureaftertreatment 1 intake NOx read\
+ing stableaftertreatment 1 intake oxygen reading stableaftertreatment 1 intake gas sensor heater pre\
+liminary FMIaftertreatment 1 intake gas sensor heater controlaftertreatment 1 intake NOx sensor prel\
+iminary FMIaftertreatment 1 intake oxygen sensor preliminary FMIoutlet NOxoutlet oxygenaftertreatmen\
+t 1 outlet gas sensor power in rangeaftertreatment 1 outlet gas sensor at temperatureaftertreatment \
+1 outlet NOx reading stableaftertreatment 1 outlet oxygen reading stableaftertreatment 1 outlet gas \
+sensor heater preliminary FMIaftertreatment 1 outlet gas sensor heater controlaftertreatment 1 outle\
+t NOx sensor preliminary FMIaftertreatment 1 outlet oxygen sensor preliminary FMIaftertreatment 1 ex\
+haust gas mass flow rateaftertreatment 1 intake dew point detectedaftertreatment 1 outlet dew point \
+detectedaftertreatment 2 intake dew point detectedaftertreatment 2 outlet dew point detectedexhaust \
+gas temperature 1particulate filter intake gas temperatureaftertreatment 1 exhaust gas temperature \
+1 preliminary FMIaftertreatment 1 particulate filter intake gas temperature preliminary FMIexhaust g\
+as temperature 3particulate filter outlet gas temperatureaftertreatment 1 exhaust gas temperature 3 \
+preliminary FMIaftertreatment 1 particulate filter outlet gas temperature preliminary FMIexhaust ga\
+s temperature 2particulate filter intermediate gas temperatureparticulate filter differential pressu\
+reaftertreatment 1 exhaust gas temperature 2 preliminary FMIaftertreatment 1 particulate filter diff\
+erential pressure preliminary FMIaftertreatment 1 particulate filter intermediate gas temperature pr\
+eliminary FMIaftertreatment 2 intake NOxaftertreatment 2 intake oxygenaftertreatment 2 outlet NOxaft\
+ertreatment 2 outlet oxygenaftertreatment 2 exhaust gas temperature 1aftertreatment 2 particulate fi\
+lter intake gas temperatureaftertreatment 2 exhaust gas temperature 3aftertreatment 2 particulate fi\
+lter outlet gas temperatureaftertreatment 2 exhaust gas temperature 2aftertreatment 2 particulate fi\
+lter intermediate gas temperatureaftertreatment 2 particulate filter differential pressuredistance s\
+ince diagnostic trouble codes clearedminutes run by engine while the malfunction lamp is ontime sinc\
+e diagnostic trouble codes clearedtime since engine startnumber of warm-ups since diagnostic troubl\
+e codes clearedTSC1 transmission rateTSC1 control purposealternator 1 statusalternator 2 statusalter\
+nator 3 statusalternator 4 statusactual maximum available engine percent torqueexhaust gas recircula\
+tion 1 intake pressureaftertreatment 1 diesel exhaust fluid controlleraftertreatment 1 diesel exhaus\
+t fluid dosing unitaftertreatment 1 diesel exhaust fluid dosing unit input linesaftertreatment 1 die\
+sel exhaust fluid tank heateraftertreatment 1 diesel exhaust fluid tank qualitystatus 2 of doorsloc\
+k status of door 1open status of door 1enable status of door 1lock status of door 2open status of do\
+or 2enable status of door 2lock status of door 3open status of door 3enable status of door 3lock sta\
+tus of door 4open status of door 4enable status of door 4lock status of door 5open status of door 5e\
+nable status of door 5lock status of door 6open status of door 6enable status of door 6lock status o\
+f door 7open status of door 7enable status of door 7lock status of door 8open status of door 8enabl\
+e status of door 8lock status of door 9open status of door 9enable status of door 9lock status of do\
+or 10open status of door 10enable status of door 10throttle actuator 1 control commandthrottle actua\
+tor 2 control commandaftertreatment 1 fuel pressure 1aftertreatment 1 fuel rateaftertreatment 1 fue\
+l enable actuatoraftertreatment 1 regeneration statusaftertreatment 1 ignitionaftertreatment 1 suppl\
+y air pressureaftertreatment 1 purge air pressureaftertreatment 1 air pressure controlaftertreatmen\
+t 1 air pressure actuator positionaftertreatment 1 air enable actuatoraftertreatment 1 purge air act\
+uatorsensor supply voltage 1sensor supply voltage 2sensor supply voltage 3sensor supply voltage 4sen\
+sor supply voltage 5sensor supply voltage 6aftertreatment 1 diesel exhaust fluid temperature 2aftert\
+reatment 1 diesel exhaust fluid concentrationaftertreatment 1 diesel exhaust fluid tank level 2after\
+treatment 1 diesel exhaust fluid temperature 2 preliminary FMIaftertreatment 1 diesel exhaust fluid \
+properties preliminary FMIaftertreatment 1 diesel exhaust fluid propertyaftertreatment 1 total fuel \
+usedaftertreatment 1 total regeneration timeaftertreatment 1 total disabled timeaftertreatment 1 tot\
+al number of active regenerationsaftertreatment 1 hydrocarbon doserintake manifold 2 pressureintake \
+manifold 1 absolute pressureECU power output supply voltage 1ECU power output supply voltage 2ECU po\
+wer output supply voltage 3engine emergency shutdown indicationparticulate filter 1 intake pressurep\
+articulate filter 1 outlet pressureengine derate requestengine air shutoff statusthrottle 2 position\
+particulate filter regeneration inhibit switchparticulate filter regeneration force switchparticulat\
+e filter lamp commandexhaust system high temperature lamp commandparticulate filter passive regenera\
+tion statusparticulate filter active regeneration statusparticulate filter statusregeneration inhibi\
+ted statusregeneration inhibited by the inhibit switchregeneration inhibited due to clutch disengage\
+dregeneration inhibited due to service brake activeregeneration inhibited due to power takeoff activ\
+eregeneration inhibited due to accelerator pedal off idleregeneration inhibited due to out of neutra\
+lregeneration inhibited due to vehicle speed above allowed speedregeneration inhibited due to parkin\
+g brake not setregeneration inhibited due to low exhaust temperatureregeneration inhibited due to sy\
+stem fault activeregeneration inhibited due to system timeoutregeneration inhibited due to temporar\
+y system lockoutregeneration inhibited due to permanent system lockoutregeneration inhibited due to \
+engine not warmed upregeneration inhibited due to vehicle speed below allowed speedparticulate filte\
+r automatic active regeneration initiation configurationaftertreatment 1 particulate filter soot loa\
+d percentaftertreatment 1 particulate filter ash load percentaftertreatment 1 particulate filter tim\
+e since last active regenerationaftertreatment 2 particulate filter soot load percentaftertreatment \
+2 particulate filter ash load percentaftertreatment 2 particulate filter time since last active rege\
+nerationparticulate filter conditions not met for active regenerationaftertreatment 1 diesel exhaus\
+t fluid average consumptionaftertreatment 1 secondary air differential pressureaftertreatment partic\
+ulate filter systemgenerator governing biasat least one power takeoff engagedcoolant temperature 2NO\
+x limits exceeded, root cause unknownNOx limits exceeded due to insufficient diesel exhaust fluid qu\
+alityNOx limits exceeded due to interruption of diesel exhaust fluid dosingNOx limits exceeded due t\
+o empty diesel exhaust fluid tankactual engine percent torque, fractionalinjector group 3aftertreatm\
+ent 1 diesel exhaust fluid actual dosing quantityaftertreatment 1 SCR system stateaftertreatment 1 d\
+iesel exhaust fluid actual quantity of integratoraftertreatment 1 diesel exhaust fluid doser absolut\
+e pressureaftertreatment 1 SCR dosing air assist absolute pressureaftertreatment 1 SCR dosing air as\
+sist valveaftertreatment 1 diesel exhaust fluid doser temperatureaftertreatment 1 SCR feedback contr\
+ol statusaftertreatment 1 diesel exhaust fluid line heater 1 stateaftertreatment 1 diesel exhaust fl\
+uid line heater 1 preliminary FMIaftertreatment 1 diesel exhaust fluid line heater 2 stateaftertreat\
+ment 1 diesel exhaust fluid line heater 2 preliminary FMIaftertreatment 1 diesel exhaust fluid line \
+heater 3 stateaftertreatment 1 diesel exhaust fluid line heater 3 preliminary FMIaftertreatment 1 di\
+esel exhaust fluid line heater 4 stateaftertreatment 1 diesel exhaust fluid line heater 4 preliminar\
+y FMIaftertreatment 1 diesel exhaust fluid requested dosing quantityaftertreatment 1 diesel exhaust \
+fluid line heater 1aftertreatment 1 diesel exhaust fluid line heater 2aftertreatment 1 diesel exhaus\
+t fluid line heater 3aftertreatment 1 diesel exhaust fluid line heater 4aftertreatment 1 SCR differe\
+ntial pressureaftertreatment 1 SCR intake temperatureaftertreatment 1 SCR outlet temperatureaftertre\
+atment 1 SCR conversion efficiencyaftertreatment 1 diesel exhaust fluid tank 1 heateraftertreatment \
+1 diesel exhaust fluid tank 2 levelaftertreatment 1 diesel exhaust fluid tank 2 temperatureaftertrea\
+tment 1 diesel exhaust fluid pump motor speedaftertreatment 1 diesel exhaust fluid pump drive percen\
+tageaftertreatment 1 diesel exhaust fluid return valveaftertreatment 1 outlet ammoniaexhaust gas rec\
+irculation 1 cooler efficiencyaftertreatment 1 diesel oxidation catalyst intake gas temperatureafter\
+treatment 1 diesel oxidation catalyst outlet gas temperatureaftertreatment 1 particulate filter soo\
+t massaftertreatment 1 SCR systemaftertreatment 1 SCR system missingaftertreatment 1 particulate fil\
+ter missingaftertreatment 1 diesel oxidation catalyst missingaftertreatment 1 intake NOx sensor heat\
+er ratioaftertreatment 1 outlet NOx sensor heater ratiotrip fuel, high resolutiontotal fuel used, hi\
+gh resolutionengine amber warning lamp commandengine red stop lamp commandOBD malfunction indicator \
+lamp commandsensor supply voltage 7sensor supply voltage 8aftertreatment diesel exhaust fluid tank l\
+ow level indicatoraftertreatment SCR operator inducement severitycharge air cooler 1 efficiencyafter\
+treatment 1 diesel oxidation catalyst conversion efficiencycommanded fuel rail pressurecommanded inj\
+ection control pressureaftertreatment 1 particulate filter incomplete regenerationfuel injection qua\
+ntity error for multiple cylindersaftertreatment 1 diesel exhaust fluid doseraftertreatment 1 partic\
+ulate filter regeneration too frequentaftertreatment 1 diesel exhaust fluid pump stateaftertreatmen\
+t 1 particulate filter soot load regeneration thresholdaftertreatment 1 diesel exhaust fluid line he\
+ater relayhigh pressure fuel rail pressure relief valvefuel delivery absolute pressureinjector meter\
+ing rail 1 cranking pressureaftertreatment 1 outlet soot sensoraftertreatment particulate filter tem\
+perature sensor moduleaftertreatment SCR temperature sensor moduleaftertreatment 1 diesel exhaust fl\
+uid dosing unit heateraftertreatment 1 diesel exhaust fluid dosing unit heater relaydesired engine f\
+ueling stateaftertreatment 1 diesel exhaust fluid dosing unit heater temperatureemission control sys\
+tem operator inducement severityfuel typeexhaust gas recirculation valve malfunctiondiesel exhaust f\
+luid quality malfunctionSCR monitoring system malfunctionaftertreatment 1 SCR intermediate ammoniaaf\
+tertreatment 1 SCR intermediate temperaturewater in fuel indicator 2";
 
 /// All of them.
 pub(crate) fn table() -> NameTable<'static>

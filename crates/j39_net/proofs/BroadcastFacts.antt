@@ -15,7 +15,7 @@ use Rattle.j39_node.proofs.PacketsAnswer.{packs_to_all}
 use Rattle.j39_node.specs.Hearing.{announces, packs}
 use Rattle.j39_node.specs.History.{frame_of, is_claim, is_packet, is_session, is_some, Message, message_of}
 
-announces_group : (f : FrameRecord) → announces f ≡ true → pgn_of f.id ≡ 60416
+pub announces_group : (f : FrameRecord) → announces f ≡ true → pgn_of f.id ≡ 60416
 unfolding frame.group_of
 announces_group f e = (announcement_facts (Broadcast (source_of f.id)) f e).pgn
 

@@ -104,7 +104,7 @@ latest a A o hs (Course.goes_on B xs x b j m l c) fs f e =
 -- ---- what is open is of the last message that was announced
 
 -- the packets that came are its first
-record Fits (b : MessageRecord) (j : ℕ) (y : OpenBroadcast) : Type 0 where
+pub record Fits (b : MessageRecord) (j : ℕ) (y : OpenBroadcast) : Type 0 where
   pub source : y.source ≡ b.source
   pub group : y.group ≡ b.pgn
   pub size : y.size ≡ length b.bytes
@@ -200,7 +200,7 @@ begin_step a g A o b q p W made own i (Step.makes x y s e k w) h = absurd (not_p
 -- ---- a packet
 
 -- the packet behind those that came
-one_more : (b : MessageRecord) (j : ℕ) (g : FrameRecord) (x y : OpenBroadcast) → IsPacket b j g → IsGrown g x y → Fits b (suc j) x → Fits b (suc (suc j)) y
+pub one_more : (b : MessageRecord) (j : ℕ) (g : FrameRecord) (x y : OpenBroadcast) → IsPacket b j g → IsGrown g x y → Fits b (suc j) x → Fits b (suc (suc j)) y
 one_more b j g x y i k h =
     let n : x.count ≡ j = (let z = sym k.number ∙ i.number in omega (arith, z)) in
     let few : length x.bytes < x.size = leb-false x.size (length x.bytes) k.lacked in
@@ -218,7 +218,7 @@ one_more b j g x y i k h =
     }
 
 -- the message that is whole
-whole_is : (b : MessageRecord) (j : ℕ) (y : OpenBroadcast) → Fits b j y → is_whole y ≡ true → (message_by y).1 ≡ b
+pub whole_is : (b : MessageRecord) (j : ℕ) (y : OpenBroadcast) → Fits b j y → is_whole y ≡ true → (message_by y).1 ≡ b
 whole_is b j y h w =
     let enough : y.size ≤ length y.bytes = leb-true y.size (length y.bytes) w in
     let long = ap length h.bytes ∙ length-take (7 * y.count) (b.bytes ++ replicate 7 255) in

@@ -97,7 +97,7 @@ by_announcement w name now when a f true true o s e r = ends o
 by_announcement w name now when a f true false o s e r = begins_it a when (since_in now o) now name f o s e
 by_announcement w name now when a f false ignored o s e r = subst (λ z. StepTo a (stamped when f) z z) (sym (r refl)) (ends None)
 
-grown_is : (now when : ℕ) (f : FrameRecord) (x : OpenBroadcast) → slice_index f.bytes 0 ≡ suc x.count → is_whole x ≡ false → IsGrown (stamped when f) x (grown now f x)
+pub grown_is : (now when : ℕ) (f : FrameRecord) (x : OpenBroadcast) → slice_index f.bytes 0 ≡ suc x.count → is_whole x ≡ false → IsGrown (stamped when f) x (grown now f x)
 grown_is now when f x n e = record { source = refl; group = refl; size = refl; count = refl; bytes = refl; number = n; lacked = e }
 
 appended : (now when a : ℕ) (f : FrameRecord) (x : OpenBroadcast) (t : Bool) → is_whole (grown now f x) ≡ t → source_of f.id ≡ a → packs f ≡ true
@@ -185,7 +185,7 @@ module _ (w : Who) (H : List Call) (now : ℕ) (f : FrameRecord) where
   kinds false true e p = by_packet time now a f o refl e p not_whole
   kinds false false e p = stays o (λ z. same_announces f (stamped now f) refl refl ∙ e)
 
-  own_step : Step a (stamped now f) o (hearing w K a) (wholes a (listed (made_whole w H now f)))
+  pub own_step : Step a (stamped now f) o (hearing w K a) (wholes a (listed (made_whole w H now f)))
   own_step =
       subst (λ p. Step a (stamped now f) o p (wholes a (listed (made_whole w H now f)))) (sym (of_its w.boxes w name time f (found_in w H now f)))
       (subst (Step a (stamped now f) o (open_by (announces f) (packs f))) (sym (its_whole a (made_whole w H now f) (λ p e. (made_by_packet w H now f p e).1)))

@@ -28,6 +28,12 @@ pub mod TakenLemmas
 pub mod ChainLemmas
 pub mod WholeLemmas
 pub mod WholeReport
+-- where none of its frames is lost, a broadcast is heard whole, or counted
+pub mod SpanLemmas
+pub mod CloseLemmas
+pub mod HeardWhole
+-- a frame that is heard twice
+pub mod DoubledLemmas
 -- a frame of a transfer, and what is open and whole by those that are heard
 pub mod StepLemmas
 pub mod SessionLemmas

@@ -15,7 +15,7 @@ use Rattle.j39_net.specs.Net.{Come, IsLater, log, own, Passed}
 -- ---- of which frames the last came
 
 module _ (delay : ℕ) (missing : FrameRecord → Type 0) where
-  skip : (f : FrameRecord) (fs gs : List FrameRecord) → missing f → Come delay missing fs gs → Come delay missing (f ∷ fs) gs
+  pub skip : (f : FrameRecord) (fs gs : List FrameRecord) → missing f → Come delay missing fs gs → Come delay missing (f ∷ fs) gs
   skip f fs [] m c = (m, c)
   skip f fs (g ∷ gs) m c = inr (m, c)
 
@@ -155,14 +155,12 @@ own_place i [] cs0 bs g e = absurd (let a = ap length e in let b = length-append
 own_place i (y ∷ L) cs0 bs g e = place_step i y L cs0 bs g (is_some y.by i) refl (λ ds h. own_place i L ds bs g h) e
 
 -- the frames that were taken behind a call
-pub frames_behind : (later H : List Call) → (rest : List FrameRecord) × (frames (later ++ H) ≡ frames H ++ rest)
-frames_behind [] H = ([], sym (append-nil (frames H)))
-frames_behind (At now (TakeFrame (Some f)) ∷ later) H =
-    let r = frames_behind later H in
-    (r.0 ++ f ∷ [], ap (λ v. v ++ f ∷ []) r.1 ∙ append_assoc (frames H) r.0 (f ∷ []))
-frames_behind (call ∷ later) H = frames_behind later H
+pub frames_append : (later H : List Call) → frames (later ++ H) ≡ frames H ++ frames later
+frames_append [] H = sym (append-nil (frames H))
+frames_append (At now (TakeFrame (Some f)) ∷ later) H = ap (λ v. v ++ f ∷ []) (frames_append later H) ∙ append_assoc (frames H) (frames later) (f ∷ [])
+frames_append (call ∷ later) H = frames_append later H
 
-first_count : (b : MessageRecord) (n : ℕ) → length (first_frames b n) ≡ n
+pub first_count : (b : MessageRecord) (n : ℕ) → length (first_frames b n) ≡ n
 first_count b zero = refl
 first_count b (suc n) = push_length (first_frames b n) (frame_of b n) ∙ ap suc (first_count b n)
 

@@ -33,7 +33,7 @@ use Rattle.j39_net.proofs.CourseLemmas.{all_front, Course, Coursed, coursed, IsO
 use Rattle.j39_net.proofs.JoinLemmas.{heard_in, inside, there, under}
 use Rattle.j39_net.proofs.PartLemmas.{is_by, same_message}
 use Rattle.j39_net.proofs.ReportLemmas.{get_front, holder_by, own_split}
-use Rattle.j39_net.proofs.WholeLemmas.{all_count, CameAt, come_at, come_push, course_in, frames_behind, own_place, OwnPlace}
+use Rattle.j39_net.proofs.WholeLemmas.{all_count, CameAt, come_at, come_push, course_in, frames_append, own_place, OwnPlace}
 use Rattle.j39_net.specs.Net.{Come, hears, IsLater, IsAnnouncedAt, IsMember, IsNoClaim, IsTimely, IsUnrivalled, log, Member, Net, OnlySends, others, own, Passed}
 
 -- ---- a net in which less may be missing
@@ -147,9 +147,8 @@ module _ (delay now i at token : ℕ) (L : List Passed) (members : List Member) 
 
   came : CameAt delay Missing (frames earlier) (own i L) f
   came =
-      let r = frames_behind later H in
-      come_at delay Missing (frames earlier) f r.0 (own i L) (λ z. z.1 source_is)
-      (subst (λ fs. Come delay Missing fs (own i L)) (ap frames is ∙ (r.1 ∙ append_assoc (frames earlier) (f ∷ []) r.0)) (net.sent i m member))
+      come_at delay Missing (frames earlier) f (frames later) (own i L) (λ z. z.1 source_is)
+      (subst (λ fs. Come delay Missing fs (own i L)) (ap frames is ∙ (frames_append later H ∙ append_assoc (frames earlier) (f ∷ []) (frames later))) (net.sent i m member))
 
   place : OwnPlace i L came.before came.frame
   place = own_place i L came.before came.after came.frame came.is

@@ -3,8 +3,9 @@ use Rattle.std.specs.Prelude.{◌∷◌, [], List, None, Ok, Some, true, ℕ}
 use Rattle.j39_frame.specs.Frame.{FrameRecord}
 use Rattle.j39_node.specs.Example.{announcement, clear, first_packet, first_to, last_packet, last_to, nine, own_claim, received_all, request_to, speed, speed_frame, two}
 use Rattle.j39_node.specs.History.{message_of}
-use Rattle.j39_node.specs.History.Call.{At, ReleaseBroadcast, TakeReceived, TakeTransferEnded}
+use Rattle.j39_node.specs.History.Call.{At, ReleaseBroadcast, TakeBroadcastEnded, TakeReceived, TakeTransferEnded}
 use Rattle.j39_node.specs.History.Act.{Broadcast, Hear, Send, TakeFrame, Transfer}
+use Rattle.j39_node.specs.declared.kinds.Ending.TheVariants as ending
 use Rattle.j39_node.specs.declared.kinds.TransferEnding.TheVariants.{Done}
 use Rattle.j39_net.specs.Net.{Member, Passed}
 
@@ -19,7 +20,8 @@ first = record {
   who = two;
   since = 0;
   history =
-      At 403100 (TakeFrame (Some (last_packet 403100)))
+      TakeBroadcastEnded (Some (0, ending.Done))
+      ∷ At 403100 (TakeFrame (Some (last_packet 403100)))
       ∷ At 353100 (TakeFrame (Some (first_packet 353100)))
       ∷ At 303100 (TakeFrame (Some (announcement 303100)))
       ∷ At 303000 (Broadcast 65226 nine (Ok 0))

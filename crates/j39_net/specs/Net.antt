@@ -1,7 +1,7 @@
 -- Several controllers on one bus: one log of its frames, and the history of each one's calls. On a CAN bus one frame is before or
 -- behind another for everybody (ISO 11898-1), so one log is enough.
-use Rattle.std.specs.Prelude.{Bool, ◌+◌, ◌++◌, ◌&&◌, ◌^◌, ◌∷◌, ◌≡◌, ◌≢◌, ◌≤◌, ◌<◌, ◌⊎◌, [], ℕ, List, Option, Some, IsTrue, false, length, true, map, filter, nat_eq, nat_le, not, slice_get}
-use Rattle.std.specs.List.{All}
+use Rattle.std.specs.Prelude.{Bool, ◌*◌, ◌+◌, ◌-◌, ◌/◌, ◌++◌, ◌&&◌, ◌^◌, ◌∷◌, ◌≡◌, ◌≢◌, ◌≤◌, ◌<◌, ◌⊎◌, [], ℕ, List, None, Ok, Option, Some, IsTrue, drop, false, length, true, map, filter, nat_eq, nat_le, not, slice_get}
+use Rattle.std.specs.List.{All, Contains}
 use Rattle.j39_frame.specs.Address.{IsAddress}
 use Rattle.j39_frame.specs.Frame.{FrameRecord}
 use Rattle.j39_frame.specs.Identifier.{source_of}
@@ -12,12 +12,16 @@ use Rattle.j39_transport.specs.Protocol.{broadcast_limit}
 use Rattle.j39_transport.specs.Signals.{Acknowledgment, RequestToSend, said_between, Signal}
 use Rattle.j39_listen.specs.Heard.{frame_at, frames_only}
 use Rattle.j39_address.specs.Claim.{Claim, claim_of}
-use Rattle.j39_node.specs.Hearing.{announces}
-use Rattle.j39_node.specs.History.{Call, Who, frames, is_claim, is_larger, is_some}
+use Rattle.j39_node.specs.Hearing.{announces, found, found_in, has_box, OpenBroadcast, whole_broadcasts}
+use Rattle.j39_node.specs.History.{Call, Message, Who, frames, is_claim, is_larger, is_some, message_of}
 use Rattle.j39_node.specs.History.Call.{At}
-use Rattle.j39_node.specs.History.Act.{Hear, TakeFrame}
+use Rattle.j39_node.specs.History.Act.{Hear, TakeFrame, Transfer}
 use Rattle.j39_node.specs.Is.{AreAnswered}
 use Rattle.j39_node.specs.Prompt.{claims_anew}
+use Rattle.j39_node.specs.Reception.{KeepsHolder}
+use Rattle.j39_node.specs.Since.{passed_in}
+use Rattle.j39_node.specs.Transfers.{next_transfer_ended}
+use Rattle.j39_node.specs.declared.kinds.TransferEnding.TheVariants.{Done}
 
 -- a controller on the bus: for whom it was made or moved, its calls since then, the newest first, and from which moment on it is there
 pub record Member : Type 0 where
@@ -136,7 +140,27 @@ IsPart (x ∷ xs) (y ∷ ys) = ((x ≡ y) × IsPart xs ys) ⊎ IsPart (x ∷ xs)
 abbrev pub OnlySends : List Passed → ℕ → ℕ → Type 0
 OnlySends L i address = All (λ x. is_claim x.frame ≡ false → source_of x.frame.id ≡ address → x.by ≡ Some i) L
 
--- ---- broadcasts in the log (J1939-21, 5.10.3.5)
+-- f is none of these messages
+abbrev pub IsNoneOf : List Message → FrameRecord → Type 0
+IsNoneOf messages f = Contains messages (message_of f) → ⊥
+
+-- ---- broadcasts that are heard (J1939-21, 5.10.3.5)
+
+-- the announcement f finds a box free, and none of its source open; and by each later call who holds its address stays, and doesn't restart
+pub record IsWelcome (w : Who) (later earlier : List Call) (at : ℕ) (f : FrameRecord) : Type 0 where
+  pub box : IsTrue (has_box w.boxes (found_in w earlier at f))
+  pub none : found w earlier at f (source_of f.id) ≡ None
+  pub holder : KeepsHolder w (source_of f.id) later (At at (Hear f) ∷ earlier)
+
+-- what is whole, and wasn't yet behind these earlier calls
+abbrev pub whole_since : Who → List Call → List Call → List MessageRecord
+whole_since w before H = drop (length (whole_broadcasts w before)) (map (λ x. x.1) (whole_broadcasts w H))
+
+-- of one message as many packets came
+abbrev pub IsAsFar : OpenBroadcast → OpenBroadcast → Type 0
+IsAsFar x y = (y.group ≡ x.group) × (y.size ≡ x.size) × (y.count ≡ x.count) × (y.bytes ≡ x.bytes)
+
+-- ---- broadcasts in the log
 
 -- up to place k of the log an announcement (BAM) from address a stands last at this place
 pub record IsAnnouncedAt (L : List Passed) (a k place : ℕ) : Type 0 where
@@ -164,6 +188,18 @@ messages_to d T = map (λ x. x.1) (filter (λ x. nat_eq x.0 d) T)
 -- none of these calls claims the address anew
 abbrev pub NoneAnew : List Call → Type 0
 NoneAnew H = All (λ call. claims_anew call ≡ false) H
+
+-- behind a history whose last call accepts a transfer these calls take at most so long, and by them it is over, and done
+abbrev pub IsDoneIn : ℕ → Who → List Call → List Call → Type 0
+IsDoneIn t w later (At at (Transfer group destination bytes (Ok k)) ∷ earlier) =
+    let H = At at (Transfer group destination bytes (Ok k)) ∷ earlier in
+    (passed_in later H ≤ t) × (next_transfer_ended w (later ++ H) ≡ Some (k, Done))
+IsDoneIn t w later H = ⊥
+
+-- so long it should take at most (that isn't proved), where nothing is lost, both drivers come in each g and take all, nothing else is due,
+-- and each CTS grants a window of packets, 1 at least (for 0 it tells nothing): the request is answered, and each window
+abbrev pub done_by : ℕ → ℕ → ℕ → MessageRecord → ℕ
+done_by delay g window b = (1 + (packets_of b + window - 1) / window) * (2 * g + 4 * delay)
 
 -- a message of this group and size is acknowledged by it
 abbrev pub acknowledges : MessageRecord → Option Signal → Bool

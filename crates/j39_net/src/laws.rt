@@ -1,25 +1,28 @@
 //! Laws over a bus and its controllers, each the contract of a function that does nothing.
-ghost use Rattle.std.specs.Prelude.{◌≡◌, ◌≢◌, ◌⊎◌, ◌++◌, ◌+◌, ◌*◌, ◌^◌, ◌<◌, ◌≤◌, ◌∷◌, true, ℕ, List, IsTrue, Ok, Some, drop, false, filter, map, nat_eq, slice_get, take};
+ghost use Rattle.std.specs.Prelude.{◌≡◌, ◌≢◌, ◌⊎◌, ◌++◌, ◌+◌, ◌*◌, ◌^◌, ◌<◌, ◌≤◌, ◌∷◌, true, ℕ, List, IsTrue, None, Ok, Some, drop, false, filter, map, nat_eq, slice_get, take};
 ghost use Rattle.std.specs.List.{All, Contains};
 ghost use Rattle.j39_frame.specs.Frame.{FrameRecord};
 ghost use Rattle.j39_frame.specs.Identifier.{pgn_of, source_of};
 ghost use Rattle.j39_groups.specs.Readings.{is_reported_in};
 ghost use Rattle.j39_groups.specs.Row.{RowRecord};
 ghost use Rattle.j39_transport.specs.Message.{MessageRecord};
+ghost use Rattle.j39_transport.specs.Protocol.{broadcast_limit};
 ghost use Rattle.j39_listen.specs.Heard.{sent_to};
 ghost use Rattle.j39_listen.specs.Report.{Entry, IsReport, entries_of};
-ghost use Rattle.j39_node.specs.Hearing.{announces, whole_broadcasts};
-ghost use Rattle.j39_node.specs.History.{Call, Who, address_after, all_frames, broadcast_from, broadcasts, content, frames, got, holds, is_claim, is_for_program, is_lost, is_packet, kept, message_of, missed, open_broadcast, packets};
-ghost use Rattle.j39_node.specs.History.Call.{At, TakeTransferEnded};
-ghost use Rattle.j39_node.specs.History.Act.{Hear, TakeFrame, Transfer};
+ghost use Rattle.j39_node.specs.Hearing.{OpenBroadcast, announces, hearing, made_whole, unheard, whole_broadcasts};
+ghost use Rattle.j39_node.specs.History.{Call, Who, address_after, all_frames, broadcast_from, broadcasts, content, frame_of, frames, got, holds, is_claim, is_for_program, is_lost, is_packet, is_subscribed, kept, message_of, missed, moment, open_broadcast, packets};
+ghost use Rattle.j39_node.specs.History.Call.{At, TakeBroadcastEnded, TakeTransferEnded};
+ghost use Rattle.j39_node.specs.History.Act.{Broadcast, Hear, TakeFrame, Transfer};
 ghost use Rattle.j39_node.specs.Is.{AreAnswered};
-ghost use Rattle.j39_node.specs.Reception.{delivered};
-ghost use Rattle.j39_node.specs.Times.{claim_time};
+ghost use Rattle.j39_node.specs.Prompt.{IsSteady};
+ghost use Rattle.j39_node.specs.Reception.{delivered, holder};
+ghost use Rattle.j39_node.specs.Times.{claim_time, packet_time};
 ghost use Rattle.j39_node.specs.Transfers.{transfers};
+ghost use Rattle.j39_node.specs.declared.kinds.Ending.TheVariants as end;
 ghost use Rattle.j39_node.specs.declared.kinds.TransferEnding.TheVariants as ending;
-ghost use Rattle.j39_node.specs.Example.{nine, two};
+ghost use Rattle.j39_node.specs.Example.{announcement, nine, two};
 ghost use Rattle.j39_net.specs.Example.{both, first, pair, passed, receiver, second, sender, transferred};
-ghost use Rattle.j39_net.specs.Net.{ComesIn, Defends, InTime, IsAnnouncedAt, IsLater, IsMember, IsNoClaim, IsNoRequest, IsPart, IsTimely, IsUnrivalled, Member, Net, NoneAnew, NoneLate, OnlySends, Passed, log, messages_to};
+ghost use Rattle.j39_net.specs.Net.{ComesIn, Defends, InTime, IsAnnouncedAt, IsAsFar, IsDoneIn, IsLater, IsMember, IsNoClaim, IsNoneOf, IsNoRequest, IsPart, IsTimely, IsUnrivalled, IsWelcome, Member, Net, NoneAnew, NoneLate, OnlySends, Passed, done_by, log, messages_to, whole_since};
 
 /// No two controllers hold one address (J1939-81, 4.2.2), whatever strangers send, where no claim of the controllers is lost or on its
 /// way, and each of the two has claimed again since it heard a larger NAME claim its address. Where claims are on their way, each for less
@@ -87,6 +90,41 @@ pub fn broadcasts_once()
         → All (λ b. b.pgn < 2 ^ 18) (broadcasts m.who m.history)
         → IsPart (filter (λ x. nat_eq x.source m.who.address) (map (λ x. x.1) (whole_broadcasts n.who n.history)))
         (broadcasts m.who m.history) }
+{}
+
+/// A broadcast in packets that was told as done is heard by each other that was there since it was accepted and subscribes its group, where
+/// none of its frames is lost or on its way, and nobody else sends from its address, but for claims. Its announcement was heard there, at
+/// most 2 * delay after the last moment before it was told, and behind that it came whole: it was got, or waits (`broadcasts_received` of
+/// `j39_node`); or messages were counted as missed since, as `take_news` tells. It came whole where its announcement found a box free and
+/// none of its source open, who holds its address stayed, and its sender's driver took one frame at least in each g since it was accepted,
+/// where 150 ms + 3 * g + 2 * delay is at most 750 ms (T1). Strangers can keep the boxes full, or claim the address: then it is counted.
+pub fn broadcasts_got()
+    ensures { (delay now i j k at group : ℕ) (bytes : List ℕ) (L : List Passed) (members : List Member) (m n : Member) (after later earlier : List Call)
+        → Net delay now (IsNoneOf (all_frames (broadcast_from m.who group bytes))) L members → IsMember members i m → IsMember members j n → i ≢ j
+        → OnlySends L i m.who.address → group < 2 ^ 18
+        → m.history ≡ after ++ (TakeBroadcastEnded (Some (k, end.Done)) ∷ later ++ At at (Broadcast group bytes (Ok k)) ∷ earlier)
+        → n.since ≤ at → IsTrue (is_subscribed n.who group)
+        → (behind : List Call) × (when : ℕ) × (f : FrameRecord) × (before : List Call) × (n.history ≡ behind ++ At when (Hear f) ∷ before)
+        × (message_of f ≡ frame_of (broadcast_from m.who group bytes) 0) × (at ≤ when)
+        × (when ≤ moment (later ++ At at (Broadcast group bytes (Ok k)) ∷ earlier) + 2 * delay)
+        × (Contains (whole_since n.who before n.history) (broadcast_from m.who group bytes) ⊎ (unheard n.who before < unheard n.who n.history))
+        × ((g : ℕ) → IsWelcome n.who behind before when f → IsSteady g later (At at (Broadcast group bytes (Ok k)) ∷ earlier)
+        → packet_time + 3 * g + 2 * delay ≤ broadcast_limit
+        → Contains (whole_since n.who before n.history) (broadcast_from m.who group bytes)) }
+{}
+
+/// A frame that is doubled, so that it is heard twice and no call is between, changes nothing the second time of who holds an address, makes
+/// no broadcast in packets whole, and leaves one of its source as far as it is, if that stays open. Where both are of the same moment it
+/// does; a second announcement is counted as if the first had broken off. A later one may end it: it is late by then, or a claim that was
+/// called for no longer is, so that it tells a restart.
+pub fn doubled()
+    ensures holder { (w : Who) (H : List Call) (at now a : ℕ) (f : FrameRecord) → holder w (At now (Hear f) ∷ At at (Hear f) ∷ H) a
+        ≡ holder w (At at (Hear f) ∷ H) a }
+    ensures broadcast { (w : Who) (H : List Call) (at now : ℕ) (f : FrameRecord) → (made_whole w (At at (Hear f) ∷ H) now f ≡ None)
+        × ((x y : OpenBroadcast) → hearing w (At at (Hear f) ∷ H) (source_of f.id) ≡ Some x
+        → hearing w (At now (Hear f) ∷ At at (Hear f) ∷ H) (source_of f.id) ≡ Some y → IsAsFar x y) }
+    ensures stays { (w : Who) (H : List Call) (at : ℕ) (f : FrameRecord) (x : OpenBroadcast) → hearing w (At at (Hear f) ∷ H) (source_of f.id) ≡ Some x
+        → (y : OpenBroadcast) × (hearing w (At at (Hear f) ∷ At at (Hear f) ∷ H) (source_of f.id) ≡ Some y) }
 {}
 
 /// Of the transfers that come whole from such an address (J1939-21, 5.10.3), each is one that this member accepted for the other's address,
@@ -166,7 +204,11 @@ pub fn an_example()
     ensures holds { IsTrue (holds first.who first.history 404000) }
     ensures sends { OnlySends passed 0 128 }
     ensures alone { IsUnrivalled passed 6 0 first.who }
-    ensures taken { (open_broadcast first.who (drop 1 first.history) ≡ Some (0, broadcast_from two 65226 nine))
+    ensures told { Net 1000 404000 (IsNoneOf (all_frames (broadcast_from two 65226 nine))) passed both × (first.history
+        ≡ TakeBroadcastEnded (Some (0, end.Done)) ∷ take 3 (drop 1 first.history) ++ At 303000 (Broadcast 65226 nine (Ok 0)) ∷ drop 5 first.history)
+        × IsSteady 50000 (take 3 (drop 1 first.history)) (At 303000 (Broadcast 65226 nine (Ok 0)) ∷ drop 5 first.history) }
+    ensures welcome { IsWelcome second.who (take 3 second.history) (drop 4 second.history) 303400 (announcement 303300) }
+    ensures taken { (open_broadcast first.who (drop 2 first.history) ≡ Some (0, broadcast_from two 65226 nine))
         × (packets first.history ≡ all_frames (broadcast_from two 65226 nine)) }
     ensures timely { IsTimely (log passed) 128 65226 4 6 }
     ensures whole { map (λ x. x.1) (whole_broadcasts second.who second.history) ≡ broadcasts first.who first.history }
@@ -179,6 +221,7 @@ pub fn an_example_of_transfers()
     ensures anew { NoneAnew receiver.history }
     ensures done { sender.history
         ≡ TakeTransferEnded (Some (0, ending.Done)) ∷ take 5 (drop 1 sender.history) ++ At 301000 (Transfer 65226 11 nine (Ok 0)) ∷ drop 7 sender.history }
+    ensures done_in { IsDoneIn (done_by 1000 800 2 (broadcast_from two 65226 nine)) two (take 5 (drop 1 sender.history)) (drop 6 sender.history) }
     ensures in_time { NoneLate 128 11 (broadcast_from two 65226 nine) 2000 301000 (drop 7 sender.history) receiver.history }
     ensures whole { map (λ x. x.1) (delivered receiver.who receiver.history) ≡ messages_to 11 (transfers two sender.history) }
 {}

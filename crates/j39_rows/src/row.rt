@@ -25,7 +25,7 @@ use j39_listen::{Clock, Format};
 use j39_log::{push_seconds, push_stamp};
 
 /// A number, a moment, an address or a NAME.
-type Short = ArrayVec<u8, 32>;
+pub type Short = ArrayVec<u8, 32>;
 
 /// Writes a row in a form. After a fault a front of it was written.
 #[tactic(auto, unfolding(crate::specs::Row::row_text))]
@@ -76,13 +76,13 @@ fn closing(form: Format) -> &'static [u8]
     }
 }
 
-/// Writes the columns behind the first.
-fn put_columns<W: Sink>(
+/// Writes columns behind the first of a row. After a fault a front of them was written.
+pub fn put_columns<W: Sink>(
     form: Format,
     columns: &[Column<'_>],
     sink: &mut W,
 ) -> Result<(), DeviceFault>
-    ensures { Puts (flat_map (λ column. column_text form (column_of column)) columns.now) result
+    ensures { Puts (flat_map (column_text form) (map column_of columns.now)) result
         (turn W.written W.has_failed sink.old sink.new) }
 {
     for column in columns {
@@ -265,7 +265,7 @@ fn seconds_of(form: Format, stamp: Stamp) -> Short
     ensures { result.items ≡ plain_text form (seconds (stamp_micros stamp)) }
 {
     match form {
-        Format::Line(clock) => moment_of(clock, stamp),
+        Format::Line(clock) => moment_text(clock, stamp),
         Format::Record => {
             let mut text = ArrayVec::new();
             push_seconds(&mut text, stamp.micros());
@@ -275,7 +275,8 @@ fn seconds_of(form: Format, stamp: Stamp) -> Short
     }
 }
 
-fn moment_of(clock: Clock, stamp: Stamp) -> Short
+/// A moment as a line tells it by its clock.
+pub fn moment_text(clock: Clock, stamp: Stamp) -> Short
     ensures { result.items ≡ moment_text clock (stamp_micros stamp) }
 {
     let mut text = ArrayVec::new();

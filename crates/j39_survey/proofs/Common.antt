@@ -8,7 +8,7 @@ pub use Rattle.j39_frame.specs.Pgn.{pgn_raw}
 pub use Rattle.j39_frame.specs.Stamp.{stamp_micros}
 pub use Rattle.j39_frame.specs.declared.pgn.Pgn.{Pgn}
 pub use Rattle.j39_groups.proofs.VisitLemmas.{flat_map-next}
-pub use Rattle.j39_groups.specs.Row.{RowRecord}
+pub use Rattle.j39_names.specs.Naming.{NamingRecord, naming_of}
 pub use Rattle.j39_io.proofs.DeviceLemmas.{Appends-kept, front_of_all}
 pub use Rattle.j39_io.proofs.PutsLemmas.{puts_as, puts_done, puts_failed, puts_first, puts_nothing, puts_then, puts_until}
 pub use Rattle.j39_io.specs.Chars.{newline}

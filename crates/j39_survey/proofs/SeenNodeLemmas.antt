@@ -30,7 +30,7 @@ shows_one long F a None x y (inr (silent, is_x)) (inr (_, is_y)) = is_x ∙ sym 
 
 -- one text is made of some frames
 pub seen_nodes_one : (asked : SeenAskedRecord) → MakesOne (MakesSeenNodesIn asked)
-seen_nodes_one asked = one_text (ShowsPresence asked.silence) (seen_in asked.form) (shown_from is_seen_node asked.from) (shows_one asked.silence)
+seen_nodes_one asked = one_text (ShowsPresence asked.silence) (seen_in asked.own asked.form) (shown_from is_seen_node asked.from) (shows_one asked.silence)
 
 longest_is : (long : ℕ) (F : List FrameRecord) (a : ℕ) (seen : Seen) → HasSeen F a seen → longest_of long seen ≡ longest_at long F a
 longest_is long F a seen has = ap (λ (o : Option Spread). if_long long (option_map (λ s. s.longest) o)) has.measured.spread_is
@@ -63,15 +63,15 @@ shows long F now a seen None last has holds = by seen.talks refl
 chosen : SeenList → List Presence
 chosen list = shown_from is_seen_node (asked_of list.asked).from (all_below (presence_in list) 254)
 
-lines_chosen : (list : SeenList) → all_below (seen_lines list) 254 ≡ map (seen_in list.asked.format) (chosen list)
+lines_chosen : (list : SeenList) → all_below (seen_lines list) 254 ≡ map (seen_in list.asked.own.now list.asked.format) (chosen list)
 unfolding chosen
-lines_chosen list = lines_are (seen_in list.asked.format) is_seen_node (asked_of list.asked).from (presence_in list) 254
+lines_chosen list = lines_are (seen_in list.asked.own.now list.asked.format) is_seen_node (asked_of list.asked).from (presence_in list) 254
 
-makes_chosen : (asked : SeenAskedRecord) (list : SeenList) → Makes (λ bus. HasSeenAll asked) (MakesSeenNodesIn asked) list (seen_in list.asked.format) (chosen list)
+makes_chosen : (asked : SeenAskedRecord) (list : SeenList) → Makes (λ bus. HasSeenAll asked) (MakesSeenNodesIn asked) list (seen_in list.asked.own.now list.asked.format) (chosen list)
 unfolding chosen
 makes_chosen asked list = λ bus F before has. (
   ap (λ (o : Output). o.text) has.nothing,
-  subst (λ (a : SeenAskedRecord). MakesSeenNodesIn a bus F (lines_of (seen_in list.asked.format) (chosen list))) has.asked_is (
+  subst (λ (a : SeenAskedRecord). MakesSeenNodesIn a bus F (lines_of (seen_in list.asked.own.now list.asked.format) (chosen list))) has.asked_is (
     all_below (presence_in list) 254,
     shown_is (ShowsPresence list.asked.silence F) F (presence_in list) (holder_in list.claims) 254 (omega arith) has.knows
         (λ a below. shows list.asked.silence F (option_map stamp_micros list.last) a (seen_at list a) (holder_in list.claims a) has.last_is (has.sees a below) (has.knows a)),
@@ -86,9 +86,9 @@ pub seen_close : (asked : SeenAskedRecord) (a : SeenList) (lines : ℕ) (old new
     → lines ≡ length (all_below (seen_lines a) 254) → Appends old new (concat (all_below (seen_lines a) 254))
     → Closes (λ bus. HasSeenAll asked) (MakesSeenNodesIn asked) a (record { messages = 0; lines = lines }) old new
 seen_close asked a lines old new fits count written =
-    closes_lines (λ bus. HasSeenAll asked) (MakesSeenNodesIn asked) a (seen_in a.asked.format) (chosen a) _ lines old new (lines_chosen a) fits count written (makes_chosen asked a)
+    closes_lines (λ bus. HasSeenAll asked) (MakesSeenNodesIn asked) a (seen_in a.asked.own.now a.asked.format) (chosen a) _ lines old new (lines_chosen a) fits count written (makes_chosen asked a)
 
 pub seen_stop : (asked : SeenAskedRecord) (a : SeenList) (old new : Option (List ℕ)) → AppendsFront old new (concat (all_below (seen_lines a) 254))
     → StopsAtEnd (λ bus. HasSeenAll asked) (MakesSeenNodesIn asked) a old new
 seen_stop asked a old new front =
-    stops_lines (λ bus. HasSeenAll asked) (MakesSeenNodesIn asked) a (seen_in a.asked.format) (chosen a) _ old new (lines_chosen a) (seen_nodes_one asked) front (makes_chosen asked a)
+    stops_lines (λ bus. HasSeenAll asked) (MakesSeenNodesIn asked) a (seen_in a.asked.own.now a.asked.format) (chosen a) _ old new (lines_chosen a) (seen_nodes_one asked) front (makes_chosen asked a)

@@ -1,5 +1,5 @@
 -- A survey, one line more.
-use Rattle.j39_survey.proofs.Common.{◌≡◌, ◌||◌, ◌+◌, ◌++◌, ℕ, List, [], ◌∷◌, true, false, length, refl, sym, ap, ◌∙◌, append-nil, subst, map, Option, Some, None, ap₂, inl, inr, or-false, or-true, AllByRecursion, filter_map, Err, Ok, OnErr, OnOk, Result, unwrap_or, bytes_eq, cases_Bool, bytes_eq-Decides, map-append, filter_map-append, list_any-append, FrameRecord, capped, Spells, frame, other, unread, blank, RowRecord, Hearing, or_none, heard_below_unique, bus_of, first_bus, frame_on, frames_of, bus_of-append, bus_of-frame, bus_of-kept, frames_of-append, one_spelled}
+use Rattle.j39_survey.proofs.Common.{◌≡◌, ◌||◌, ◌+◌, ◌++◌, ℕ, List, [], ◌∷◌, true, false, length, refl, sym, ap, ◌∙◌, append-nil, subst, map, Option, Some, None, ap₂, inl, inr, or-false, or-true, AllByRecursion, filter_map, Err, Ok, OnErr, OnOk, Result, unwrap_or, bytes_eq, cases_Bool, bytes_eq-Decides, map-append, filter_map-append, list_any-append, FrameRecord, capped, Spells, frame, other, unread, blank, NamingRecord, Hearing, or_none, heard_below_unique, bus_of, first_bus, frame_on, frames_of, bus_of-append, bus_of-frame, bus_of-kept, frames_of-append, one_spelled}
 use Rattle.j39_survey.specs.GroupCounts.{ArePutTogether}
 use Rattle.j39_listen.specs.declared.format.Format.{Format}
 use Rattle.j39_survey.specs.SurveyText.{survey_text}
@@ -208,9 +208,9 @@ pub same_heard : (F : List FrameRecord) (a b : List Hearing) → ArePutTogether 
 same_heard F a b x y = heard_below_unique (λ (pgn : ℕ). false) (λ pgn is. refl) F (length F) a b x y
 
 -- so one survey
-pub same_survey : (form : Format) (table : List RowRecord) (given : Option (List ℕ)) (bytes : List ℕ) (a b : List LogLine) (h k : List Hearing) → AreLogLines bytes a → AreLogLines bytes b
-    → ArePutTogether (frames_of given (spelled_in a)) h → ArePutTogether (frames_of given (spelled_in b)) k → survey_text form table given a h ≡ survey_text form table given b k
-same_survey form table given bytes a b h k are are_too together too =
+pub same_survey : (form : Format) (naming : NamingRecord) (given : Option (List ℕ)) (bytes : List ℕ) (a b : List LogLine) (h k : List Hearing) → AreLogLines bytes a → AreLogLines bytes b
+    → ArePutTogether (frames_of given (spelled_in a)) h → ArePutTogether (frames_of given (spelled_in b)) k → survey_text form naming given a h ≡ survey_text form naming given b k
+same_survey form naming given bytes a b h k are are_too together too =
     let same = same_log_lines bytes a b are are_too in
     let heard = same_heard (frames_of given (spelled_in b)) h k (subst (λ (ls : List LogLine). ArePutTogether (frames_of given (spelled_in ls)) h) same together) too in
-    ap (λ (ls : List LogLine). survey_text form table given ls h) same ∙ ap (λ (hs : List Hearing). survey_text form table given b hs) heard
+    ap (λ (ls : List LogLine). survey_text form naming given ls h) same ∙ ap (λ (hs : List Hearing). survey_text form naming given b hs) heard

@@ -1,5 +1,5 @@
 -- A survey, written.
-use Rattle.j39_survey.proofs.Common.{◌≡◌, ◌+◌, ◌++◌, ◌<◌, ◌≤◌, ◌-◌, ◌*◌, ◌%◌, ℕ, zero, suc, Bool, List, [], get_or, length, map, refl, take, sym, ap, ◌∙◌, append-nil, append_assoc, arith, IsErr, Option, Result, Ok, Err, flat_map, Keeps, flat_map-map, flat_map-next, Marks, Puts, Device, Turn, Appends-kept, front_of_all, puts_as, puts_done, puts_first, puts_nothing, puts_then, puts_until, FrameRecord, IsHeardGroup, RowRecord, Hearing, capped}
+use Rattle.j39_survey.proofs.Common.{◌≡◌, ◌+◌, ◌++◌, ◌<◌, ◌≤◌, ◌-◌, ◌*◌, ◌%◌, ℕ, zero, suc, Bool, List, [], get_or, length, map, refl, take, sym, ap, ◌∙◌, append-nil, append_assoc, arith, IsErr, Option, Result, Ok, Err, flat_map, Keeps, flat_map-map, flat_map-next, Marks, Puts, Device, Turn, Appends-kept, front_of_all, puts_as, puts_done, puts_first, puts_nothing, puts_then, puts_until, FrameRecord, IsHeardGroup, NamingRecord, Hearing, capped}
 use Rattle.j39_listen.specs.declared.format.Format.{Format}
 use Rattle.j39_survey.specs.GroupCounts.{Came, came_in, group_of}
 use Rattle.j39_survey.specs.LogLines.{LogLine, others_in, seen_in, unread_in}
@@ -13,12 +13,12 @@ use Rattle.j39_survey.specs.declared.surveys.log_survey.Survey.{Survey}
 
 -- ---- the groups
 
-module _ (form : Format) (table : List RowRecord) (came : ℕ → Came) where
-  pub groups_none : (first : ℕ) (d : Device) → Puts {T = Unit} {E = Unit} (groups_from form table came first 0) (Ok tt) (record { old = d; new = d })
+module _ (form : Format) (naming : NamingRecord) (came : ℕ → Came) where
+  pub groups_none : (first : ℕ) (d : Device) → Puts {T = Unit} {E = Unit} (groups_from form naming came first 0) (Ok tt) (record { old = d; new = d })
   unfolding groups_from
   groups_none first d = puts_nothing tt d
 
-  pub groups_one : (first : ℕ) → group_text form table first (group_of (came first)) ≡ groups_from form table came first 1
+  pub groups_one : (first : ℕ) → group_text form naming first (group_of (came first)) ≡ groups_from form naming came first 1
   unfolding groups_from
   groups_one first = rw (plus_zero) refl
     where
@@ -26,70 +26,70 @@ module _ (form : Format) (table : List RowRecord) (came : ℕ → Came) where
       plus_zero = omega arith
 
   -- n groups, and k more behind them
-  groups_joined : (first n k : ℕ) → groups_from form table came first (k + n) ≡ groups_from form table came first n ++ groups_from form table came (first + n) k
+  groups_joined : (first n k : ℕ) → groups_from form naming came first (k + n) ≡ groups_from form naming came first n ++ groups_from form naming came (first + n) k
   unfolding groups_from
-  groups_joined first n zero = ap (groups_from form table came first) zero_plus ∙ sym (append-nil (groups_from form table came first n))
+  groups_joined first n zero = ap (groups_from form naming came first) zero_plus ∙ sym (append-nil (groups_from form naming came first n))
     where
       zero_plus : 0 + n ≡ n
       zero_plus = omega arith
   groups_joined first n (suc k) =
       let next : suc k + n ≡ suc (k + n) = omega arith in
       let there : first + (k + n) ≡ first + n + k = omega arith in
-      ap (groups_from form table came first) next
-      ∙ ap (λ t. t ++ group_text form table (first + (k + n)) (group_of (came (first + (k + n))))) (groups_joined first n k)
-      ∙ ap (λ at. (groups_from form table came first n ++ groups_from form table came (first + n) k) ++ group_text form table at (group_of (came at))) there
-      ∙ append_assoc (groups_from form table came first n) (groups_from form table came (first + n) k) (group_text form table (first + n + k) (group_of (came (first + n + k))))
+      ap (groups_from form naming came first) next
+      ∙ ap (λ t. t ++ group_text form naming (first + (k + n)) (group_of (came (first + (k + n))))) (groups_joined first n k)
+      ∙ ap (λ at. (groups_from form naming came first n ++ groups_from form naming came (first + n) k) ++ group_text form naming at (group_of (came at))) there
+      ∙ append_assoc (groups_from form naming came first n) (groups_from form naming came (first + n) k) (group_text form naming (first + n + k) (group_of (came (first + n + k))))
 
   pub groups_more : {E : Type 0} (first n at k m : ℕ) (old mid new : Device) → at ≡ first + n → m ≡ n + k
-      → Puts {T = Unit} {E = Unit} (groups_from form table came first n) (Ok tt) (record { old = old; new = mid })
-      → Puts {T = Unit} {E = E} (groups_from form table came at k) (Ok tt) (record { old = mid; new = new })
-      → Puts {T = Unit} {E = Unit} (groups_from form table came first m) (Ok tt) (record { old = old; new = new })
+      → Puts {T = Unit} {E = Unit} (groups_from form naming came first n) (Ok tt) (record { old = old; new = mid })
+      → Puts {T = Unit} {E = E} (groups_from form naming came at k) (Ok tt) (record { old = mid; new = new })
+      → Puts {T = Unit} {E = Unit} (groups_from form naming came first m) (Ok tt) (record { old = old; new = new })
   groups_more first n at k m old mid new is size before here =
       let all : k + n ≡ m = omega (arith, size) in
-      puts_as _ _ _ _ (sym (groups_joined first n k) ∙ ap (groups_from form table came first) all)
-      (puts_then _ _ tt (Ok tt) old mid new before (puts_done _ tt tt _ (puts_as _ _ _ _ (ap (λ n. groups_from form table came n k) is) here)))
+      puts_as _ _ _ _ (sym (groups_joined first n k) ∙ ap (groups_from form naming came first) all)
+      (puts_then _ _ tt (Ok tt) old mid new before (puts_done _ tt tt _ (puts_as _ _ _ _ (ap (λ n. groups_from form naming came n k) is) here)))
 
   -- a fault in the lines of k groups behind n, of m in all
   pub groups_stop : {T U E F' : Type 0} (first n at k m : ℕ) (e : E) (last : Result U F') (old mid new : Device) → at ≡ first + n → n + k ≤ m → IsErr last
-      → Puts {T = Unit} {E = Unit} (groups_from form table came first n) (Ok tt) (record { old = old; new = mid })
-      → Puts {T = T} (groups_from form table came at k) (Err e) (record { old = mid; new = new })
-      → Puts (groups_from form table came first m) last (record { old = old; new = new })
+      → Puts {T = Unit} {E = Unit} (groups_from form naming came first n) (Ok tt) (record { old = old; new = mid })
+      → Puts {T = T} (groups_from form naming came at k) (Err e) (record { old = mid; new = new })
+      → Puts (groups_from form naming came first m) last (record { old = old; new = new })
   groups_stop {T = T} first n at k m e last old mid new is within failed before here =
       let rest = m - (n + k) in
       let all : rest + (k + n) ≡ m = omega (arith, within) in
-      puts_as _ _ _ _ (sym (groups_joined first (k + n) rest) ∙ ap (groups_from form table came first) all)
-      (puts_first {T = T} (groups_from form table came first (k + n)) _ e last _ failed
+      puts_as _ _ _ _ (sym (groups_joined first (k + n) rest) ∙ ap (groups_from form naming came first) all)
+      (puts_first {T = T} (groups_from form naming came first (k + n)) _ e last _ failed
       (puts_as _ _ _ _ (sym (groups_joined first n k))
-      (puts_then (groups_from form table came first n) (groups_from form table came (first + n) k) tt (Err e) old mid new before
-      (puts_as _ _ _ _ (ap (λ n. groups_from form table came n k) is) here))))
+      (puts_then (groups_from form naming came first n) (groups_from form naming came (first + n) k) tt (Err e) old mid new before
+      (puts_as _ _ _ _ (ap (λ n. groups_from form naming came n k) is) here))))
 
-  pub groups_all : {T E : Type 0} (n : ℕ) (result : Result T E) (sink : Turn) → n ≡ 262144 → Puts (groups_from form table came 0 n) result sink → Puts (groups_text form table came) result sink
+  pub groups_all : {T E : Type 0} (n : ℕ) (result : Result T E) (sink : Turn) → n ≡ 262144 → Puts (groups_from form naming came 0 n) result sink → Puts (groups_text form naming came) result sink
   unfolding groups_end
-  groups_all n result sink is written = puts_as _ _ _ _ (ap (groups_from form table came 0) is) written
+  groups_all n result sink is written = puts_as _ _ _ _ (ap (groups_from form naming came 0) is) written
 
 -- groups that no identifier can have have no lines
-module _ (form : Format) (table : List RowRecord) (F : List FrameRecord) (heard : List Hearing) where
-  unheard_text : (pgn : ℕ) → pgn < 262144 → (IsHeardGroup pgn → ⊥) → group_text form table pgn (group_of (came_in F heard pgn)) ≡ []
+module _ (form : Format) (naming : NamingRecord) (F : List FrameRecord) (heard : List Hearing) where
+  unheard_text : (pgn : ℕ) → pgn < 262144 → (IsHeardGroup pgn → ⊥) → group_text form naming pgn (group_of (came_in F heard pgn)) ≡ []
   unfolding group_text group_of
   unheard_text pgn below unheard = rw (came_none pgn F below unheard) refl
 
-  unheard_texts : (first n : ℕ) → first + n ≤ 262144 → ((k : ℕ) → k < n → IsHeardGroup (first + k) → ⊥) → groups_from form table (came_in F heard) first n ≡ []
+  unheard_texts : (first n : ℕ) → first + n ≤ 262144 → ((k : ℕ) → k < n → IsHeardGroup (first + k) → ⊥) → groups_from form naming (came_in F heard) first n ≡ []
   unfolding groups_from
   unheard_texts first zero below unheard = refl
   unheard_texts first (suc n) below unheard =
-      ap (λ t. t ++ group_text form table (first + n) (group_of (came_in F heard (first + n)))) (unheard_texts first n (omega (arith, below)) (λ k less. unheard k (omega (arith, less))))
+      ap (λ t. t ++ group_text form naming (first + n) (group_of (came_in F heard (first + n)))) (unheard_texts first n (omega (arith, below)) (λ k less. unheard k (omega (arith, less))))
       ∙ unheard_text (first + n) (omega (arith, below)) (unheard n (omega arith))
 
   -- of the groups of one PF below 240 only the first has a line
   pub groups_directed : (front : ℕ) → front < 1024 → front % 256 < 240
-      → group_text form table (front * 256) (group_of (came_in F heard (front * 256))) ≡ groups_from form table (came_in F heard) (front * 256) 256
+      → group_text form naming (front * 256) (group_of (came_in F heard (front * 256))) ≡ groups_from form naming (came_in F heard) (front * 256) 256
   groups_directed front within low =
       let came = came_in F heard in
-      groups_one form table came (front * 256)
-      ∙ sym (append-nil (groups_from form table came (front * 256) 1))
-      ∙ ap (λ t. groups_from form table came (front * 256) 1 ++ t)
+      groups_one form naming came (front * 256)
+      ∙ sym (append-nil (groups_from form naming came (front * 256) 1))
+      ∙ ap (λ t. groups_from form naming came (front * 256) 1 ++ t)
       (sym (unheard_texts (front * 256 + 1) 255 (omega (arith, within)) (λ k below can. omega (arith, can.1 (omega (arith, low, below)), below))))
-      ∙ sym (groups_joined form table came (front * 256) 1 255)
+      ∙ sym (groups_joined form naming came (front * 256) 1 255)
 
 -- ---- the whole
 

@@ -1,5 +1,5 @@
 -- Who is at which address after the frames of a bus (J1939-81, 4.2), as it was seen, and its row.
-use Rattle.std.specs.Prelude.{◌≡◌, ◌==◌, ◌&&◌, ◌⊎◌, ◌<◌, ◌≤◌, ◌-◌, ℕ, Bool, true, false, List, [], ◌∷◌, Option, Some, None, codes, filter, if◌then◌else◌, length, map, nat_lt, option_and_then}
+use Rattle.std.specs.Prelude.{◌++◌, ◌≡◌, ◌==◌, ◌&&◌, ◌⊎◌, ◌<◌, ◌≤◌, ◌-◌, ℕ, Bool, true, false, List, [], ◌∷◌, Option, Some, None, codes, filter, if◌then◌else◌, length, map, nat_lt, option_and_then}
 use Rattle.std.specs.List.{last_or}
 use Rattle.std.specs.Option.{option_map}
 use Rattle.j39_frame.specs.Identifier.{source_of}
@@ -7,7 +7,8 @@ use Rattle.j39_frame.specs.Frame.{FrameRecord}
 use Rattle.j39_address.specs.Claim.{Claim, claim_of, claims_of}
 use Rattle.j39_address.specs.Holder.{Holds}
 use Rattle.j39_address.specs.Name.{fields_of}
-use Rattle.j39_names.specs.Called.{function_called, maker_called}
+use Rattle.j39_names.specs.Naming.{function_by, maker_by}
+use Rattle.j39_names.specs.declared.naming.Named.{Named}
 use Rattle.j39_survey.specs.ByAddress.{AreShown, lines_of, shown_from}
 use Rattle.j39_listen.specs.Filter.{is_sender}
 use Rattle.j39_listen.specs.Headed.{Columned}
@@ -97,35 +98,36 @@ AreSeenNodes long F nodes = AreShown (ShowsPresence long F) F nodes
 abbrev pub moment_column : List ℕ → Option ℕ → ColumnRecord
 moment_column name moment = in_all name dash (or_nothing seconds_cell moment)
 
--- the same in UTC, and what a number is called, if that is known
+-- the same in UTC
 abbrev pub utc_column : List ℕ → Option ℕ → ColumnRecord
 utc_column name moment = beside_lines name (or_nothing utc_cell moment)
 
+-- what a number is called, if that is known; in lines behind the column's name
 abbrev pub called_column : List ℕ → Option (List ℕ) → ColumnRecord
-called_column name called = beside_lines name (or_nothing text called)
+called_column name called = in_all name (if_any (codes " " ++ name ++ codes " ")) (or_nothing text called)
 
--- what a NAME's function is called, and who made its controller
-abbrev pub function_of : Option ℕ → Option (List ℕ)
-function_of name = option_and_then (λ n. function_called (fields_of n).function) name
+-- what a NAME's function is called, and who made its controller, by names of one's own first
+abbrev pub function_of : List Named → Option ℕ → Option (List ℕ)
+function_of own name = option_and_then (λ n. function_by own (fields_of n).function) name
 
-abbrev pub maker_of : Option ℕ → Option (List ℕ)
-maker_of name = option_and_then (λ n. maker_called (fields_of n).manufacturer) name
+abbrev pub maker_of : List Named → Option ℕ → Option (List ℕ)
+maker_of own name = option_and_then (λ n. maker_by own (fields_of n).manufacturer) name
 
 -- behind the address: the NAME, when it was claimed last, when heard last, for how long it was silent at the end, and for how long
--- at most before that, since when; beside lines also what the NAME says
-abbrev pub seen_columns : Presence → List ColumnRecord
-seen_columns node =
+-- at most before that, since when, and what the NAME says
+abbrev pub seen_columns : List Named → Presence → List ColumnRecord
+seen_columns own node =
     name_column node.name ∷ moment_column (codes "claimed") node.claimed ∷ utc_column (codes "claimed_utc") node.claimed
     ∷ moment_column (codes "heard") node.heard ∷ utc_column (codes "heard_utc") node.heard
     ∷ in_all (codes "silent") (if_any (codes " silent ")) (or_nothing micros_cell node.silent)
     ∷ in_all (codes "longest") (if_any (codes " longest ")) (or_nothing micros_cell (option_map (λ s. s.length) node.longest))
     ∷ in_all (codes "since_stamp") (if_any (codes " since ")) (or_nothing seconds_cell (option_map (λ s. s.since) node.longest))
     ∷ utc_column (codes "since_utc") (option_map (λ s. s.since) node.longest)
-    ∷ called_column (codes "function") (function_of node.name) ∷ called_column (codes "manufacturer") (maker_of node.name) ∷ []
+    ∷ called_column (codes "function") (function_of own node.name) ∷ called_column (codes "manufacturer") (maker_of own node.name) ∷ []
 
 -- its row in each form
-abbrev pub seen_in : Format → Presence → List ℕ
-seen_in form node = row_text form (node_head node.address) (seen_columns node)
+abbrev pub seen_in : List Named → Format → Presence → List ℕ
+seen_in own form node = row_text form (node_head node.address) (seen_columns own node)
 
 -- the names of the columns
 abbrev pub seen_names : List ℕ
@@ -135,8 +137,9 @@ seen_names = codes "address,name,claimed,claimed_utc,heard,heard_utc,silent,long
 abbrev pub is_seen_node : Presence → Sender → Bool
 is_seen_node node asked = is_sender node.address node.name asked
 
--- how they are written, the least silence that is told, and the senders that are asked for
+-- by which names of one's own and how they are written, the least silence that is told, and the senders that are asked for
 pub record SeenAskedRecord : Type 0 where
+  pub own : List Named
   pub form : Format
   pub silence : ℕ
   pub from : Option (List Sender)
@@ -145,7 +148,7 @@ pub record SeenAskedRecord : Type 0 where
 abbrev pub MakesSeenNodesIn : SeenAskedRecord → Making
 MakesSeenNodesIn asked bus F output =
     (nodes : List Presence) × AreSeenNodes asked.silence F nodes
-    × (output ≡ lines_of (seen_in asked.form) (shown_from is_seen_node asked.from nodes))
+    × (output ≡ lines_of (seen_in asked.own asked.form) (shown_from is_seen_node asked.from nodes))
 
 -- a line, a record or an object for each
 abbrev pub MakesSeenNodes : SeenAskedRecord → Making

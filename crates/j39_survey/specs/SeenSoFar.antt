@@ -33,7 +33,7 @@ seen_at list a = get_or list.seen a unseen
 
 -- what is asked for
 abbrev pub asked_of : SeenAsked → SeenAskedRecord
-asked_of asked = record { form = asked.format; silence = asked.silence; from = option_map (λ senders. senders.now) asked.from }
+asked_of asked = record { own = asked.own.now; form = asked.format; silence = asked.silence; from = option_map (λ senders. senders.now) asked.from }
 
 -- the frames F were seen, to be written as is asked
 pub record HasSeenAll (asked : SeenAskedRecord) (list : SeenList) (F : List FrameRecord) (output : Output) : Type 0 where
@@ -74,7 +74,7 @@ presence_in list a = presence list.asked.silence (option_map stamp_micros list.l
 
 -- the line of an address, if who is there is asked for
 abbrev pub seen_lines : SeenList → ℕ → List (List ℕ)
-seen_lines list a = map (seen_in list.asked.format) (shown_from is_seen_node (asked_of list.asked).from (presence_in list a))
+seen_lines list a = map (seen_in list.asked.own.now list.asked.format) (shown_from is_seen_node (asked_of list.asked).from (presence_in list a))
 
 -- what a node of the code shows
 abbrev pub presence_of : Node → Presence

@@ -3,7 +3,7 @@ use Rattle.std.specs.Prelude.{◌≡◌, ◌≢◌, ◌⊎◌, ℕ, List, Option
 use Rattle.std.specs.Io.KnownBytes.{Appends, Consumes}
 use Rattle.j39_io.specs.Device.{AppendsFront}
 use Rattle.j39_io.specs.Turn.{Turn}
-use Rattle.j39_groups.specs.Row.{RowRecord}
+use Rattle.j39_names.specs.Naming.{NamingRecord}
 use Rattle.j39_log.specs.Log.{frames_of}
 use Rattle.j39_listen.specs.Asking.{AsksForBoxes, AsksWithin}
 use Rattle.j39_listen.specs.Heard.{Hearing}
@@ -16,10 +16,10 @@ use Rattle.j39_survey.specs.GroupCounts.{ArePutTogether}
 use Rattle.j39_survey.specs.LogLines.{AreLogLines, LogLine, spelled_in}
 use Rattle.j39_survey.specs.SurveyText.{survey_text}
 
--- a survey in a form, by a table; of the interface of this name, or of that of the first frame
+-- a survey in a form, by these names and their table; of the interface of this name, or of that of the first frame
 pub record Asked : Type 0 where
   pub form : Format
-  pub table : List RowRecord
+  pub naming : NamingRecord
   pub given : Option (List ℕ)
 
 -- the survey of the log was written, and nothing else
@@ -28,14 +28,14 @@ pub record WritesSurvey (asked : Asked) (log : List ℕ) (old new : Option (List
   pub are_lines : AreLogLines log lines
   pub heard : List Hearing
   pub are_heard : ArePutTogether (frames_of asked.given (spelled_in lines)) heard
-  pub written : Appends old new (survey_text asked.form asked.table asked.given lines heard)
+  pub written : Appends old new (survey_text asked.form asked.naming asked.given lines heard)
 
 -- a front of the survey of these bytes was written
 abbrev pub WritesFront : Asked → List ℕ → Option (List ℕ) → Option (List ℕ) → Type 0
 WritesFront asked taken old new =
     (lines : List LogLine) (heard : List Hearing) → AreLogLines taken lines
     → ArePutTogether (frames_of asked.given (spelled_in lines)) heard
-    → AppendsFront old new (survey_text asked.form asked.table asked.given lines heard)
+    → AppendsFront old new (survey_text asked.form asked.naming asked.given lines heard)
 
 -- a run that stopped took these bytes of its source, and wrote a front of their survey
 pub record StopsWithin (asked : Asked) (remaining remaining' old new : Option (List ℕ)) : Type 0 where

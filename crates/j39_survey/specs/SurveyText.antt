@@ -1,9 +1,7 @@
 -- The rows of a survey (own).
 use Rattle.std.specs.Prelude.{◌==◌, ◌&&◌, ◌+◌, ◌/◌, ℕ, zero, suc, List, [], ◌∷◌, ◌++◌, Bool, Option, Some, None, codes, length, nat_le, option_map, if◌then◌else◌}
 use Rattle.std.specs.List.{flat_map}
-use Rattle.std.specs.Option.{option_or}
 use Rattle.hex.specs.Hex.{encode_upper}
-use Rattle.j39_groups.specs.Names.{group_name_in}
 use Rattle.j39_groups.specs.Readings.{is_reported_in}
 use Rattle.j39_groups.specs.Row.{RowRecord}
 use Rattle.j39_listen.specs.Counting.{capped}
@@ -11,7 +9,7 @@ use Rattle.j39_listen.specs.Heard.{Hearing}
 use Rattle.j39_listen.specs.declared.format.Format.{Format}
 use Rattle.j39_listen.specs.declared.format.Format.TheVariants.{Line, Object, Record}
 use Rattle.j39_log.specs.Log.{frames_of}
-use Rattle.j39_names.specs.Called.{group_called}
+use Rattle.j39_names.specs.Naming.{NamingRecord, group_by}
 use Rattle.j39_survey.specs.GroupCounts.{Came, GroupRecord, Spread, came_in, group_of, is_of_network}
 use Rattle.j39_survey.specs.Interfaces.{InterfaceRecord, interfaces_of, untold_in}
 use Rattle.j39_survey.specs.LogLines.{LogLine, others_in, seen_in, spelled_in, unread_in}
@@ -153,12 +151,8 @@ abbrev pub apart : (Spread → ℕ) → Option Spread → CellRecord
 apart of None = aside (codes "-")
 apart of (Some s) = micros_cell (of s)
 
--- what a group is called: by a table, or else by its short name
-abbrev pub group_named : List RowRecord → ℕ → Option (List ℕ)
-group_named table pgn = option_or (group_name_in table pgn) (group_called pgn)
-
-abbrev pub group_row : List RowRecord → ℕ → GroupRecord → SurveyRow
-group_row table pgn group = record no_row {
+abbrev pub group_row : NamingRecord → ℕ → GroupRecord → SurveyRow
+group_row naming pgn group = record no_row {
   kind = codes "group";
   pgn = number_cell pgn;
   frames = number_cell group.frames;
@@ -169,26 +163,26 @@ group_row table pgn group = record no_row {
   mean = apart (λ s. s.sum / s.count) group.spread;
   most = apart (λ s. s.longest.length) group.spread;
   since = option_map (λ s. s.longest.since) group.spread;
-  class = plain (word (class_of table pgn));
-  name = or_nothing text (group_named table pgn);
+  class = plain (word (class_of naming.rows pgn));
+  name = or_nothing text (group_by naming pgn);
 }
 
 -- a group that didn't come has no row
-unfoldable pub group_text : Format → List RowRecord → ℕ → GroupRecord → List ℕ
-group_text form table pgn group = if group.came == 0 then [] else row_in form (group_row table pgn group)
+unfoldable pub group_text : Format → NamingRecord → ℕ → GroupRecord → List ℕ
+group_text form naming pgn group = if group.came == 0 then [] else row_in form (group_row naming pgn group)
 
 -- n groups from this one on, rising
-unfoldable pub groups_from : Format → List RowRecord → (ℕ → Came) → ℕ → ℕ → List ℕ
-groups_from form table came first zero = []
-groups_from form table came first (suc n) =
-    groups_from form table came first n ++ group_text form table (first + n) (group_of (came (first + n)))
+unfoldable pub groups_from : Format → NamingRecord → (ℕ → Came) → ℕ → ℕ → List ℕ
+groups_from form naming came first zero = []
+groups_from form naming came first (suc n) =
+    groups_from form naming came first n ++ group_text form naming (first + n) (group_of (came (first + n)))
 
 -- how many groups there are, of 18 bits
 unfoldable pub groups_end : ℕ
 groups_end = 262144
 
-abbrev pub groups_text : Format → List RowRecord → (ℕ → Came) → List ℕ
-groups_text form table came = groups_from form table came 0 groups_end
+abbrev pub groups_text : Format → NamingRecord → (ℕ → Came) → List ℕ
+groups_text form naming came = groups_from form naming came 0 groups_end
 
 abbrev pub others_row : OthersRecord → SurveyRow
 others_row o = record no_row {
@@ -235,10 +229,10 @@ survey_end form others unread first is_printed =
     ++ (flat_map (λ line. row_in form (shown_row line)) first ++ printed_text form is_printed))
 
 -- the lines and the interfaces, the groups of the one that is given or the first, and what is not of a frame
-unfoldable pub survey_text : Format → List RowRecord → Option (List ℕ) → List LogLine → List Hearing → List ℕ
-survey_text form table given lines heard =
+unfoldable pub survey_text : Format → NamingRecord → Option (List ℕ) → List LogLine → List Hearing → List ℕ
+survey_text form naming given lines heard =
     (names_in form
     ++ survey_head form (capped (length lines)) (interfaces_of (seen_in lines)) (capped (untold_in (seen_in lines))))
-    ++ groups_text form table (came_in (frames_of given (spelled_in lines)) heard)
+    ++ groups_text form naming (came_in (frames_of given (spelled_in lines)) heard)
     ++ survey_end form (others_of (others_in lines)) (capped (length (unread_in lines))) (shown_in (unread_in lines))
     (is_printed_log lines)

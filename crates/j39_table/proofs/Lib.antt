@@ -8,5 +8,7 @@ pub mod StateLemmas
 pub mod RowLemmas
 -- the lines of a table, and what is printed
 pub mod TableLemmas
+pub mod LookupLemmas
+pub mod NameLemmas
 pub mod PrintedLemmas
 pub mod FaultLemmas

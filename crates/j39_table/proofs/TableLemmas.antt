@@ -1,14 +1,16 @@
 -- The lines of a table, one more at a time.
-use Rattle.std.proofs.Common.{◌≡◌, ◌<◌, ◌≤◌, ◌+◌, ◌-◌, ◌==◌, ◌∙◌, ◌++◌, ℕ, zero, suc, Bool, true, false, List, [], ◌∷◌, length, map, take, get_or, refl, sym, ap, append-nil, arith, Some, slice_get, subst, take_all}
+use Rattle.std.proofs.Common.{◌≡◌, ◌<◌, ◌≤◌, ◌+◌, ◌-◌, ◌==◌, ◌∙◌, ◌++◌, ℕ, suc, Bool, true, false, List, [], ◌∷◌, length, take, get_or, refl, sym, ap, append-nil, arith, Some, slice_get, subst}
+use Rattle.std.specs.List.{position_or_len, slice_split}
+use Rattle.std.proofs.Math.Seq.{take-append_seam}
 use Rattle.std.proofs.lemmas.Grind.{common_steps}
-use Rattle.std.proofs.lemmas.List.{length-map, map-append, take_more}
+use Rattle.std.proofs.lemmas.List.{length-map}
 use Rattle.std.proofs.lemmas.List.Elements.{filter-append}
+use Rattle.std.proofs.lemmas.List.Splits.{length-slice_split}
+use Rattle.std.proofs.lemmas.List.Sums.{count_by-le-length}
 use Rattle.j39_groups.specs.Row.{RowRecord}
+use Rattle.j39_groups.proofs.ListLemmas.{behind}
 use Rattle.j39_table.specs.Spelled.{SpellsRow}
-use Rattle.j39_table.specs.RowsSoFar.{AddsRow, IsLineFault}
-use Rattle.j39_table.specs.Tables.{IsFaultOf, SpellRows, WantsMemory, bare_line, is_row_line, lines_of, row_lines}
-use Rattle.j39_table.specs.declared.fault.TableFault.{TableFault}
-use Rattle.j39_table.specs.declared.fault.TableFault.TheVariants.{Line, TooManyRows, TooLong, Memory}
+use Rattle.j39_table.specs.Tables.{SpellEach, SpellRows, WantsMemory, bare_line, is_row_line, lines_of, row_lines, ReadsBefore}
 
 pub bare_last : (line : List ℕ) → 0 < length line → get_or line (length line - 1) 0 ≡ 13 → take (length line - 1) line ≡ bare_line line
 bare_last [] some last = absurd (omega arith)
@@ -26,78 +28,56 @@ bare_same (b ∷ c ∷ rest) some other =
     let len : length (b ∷ c ∷ rest) - 1 ≡ suc (length (c ∷ rest) - 1) = omega arith in
     ap (λ xs. b ∷ xs) (bare_same (c ∷ rest) (omega arith) (λ last. other (ap (λ n. get_or (b ∷ c ∷ rest) n 0) len ∙ last)))
 
-pub SpellRows-push : (lines : List (List ℕ)) (rows : List RowRecord) (line : List ℕ) (row : RowRecord) → SpellRows lines rows → SpellsRow line row
-    → SpellRows (lines ++ (line ∷ [])) (rows ++ (row ∷ []))
-SpellRows-push [] [] line row all one = (one, tt)
-SpellRows-push [] (r ∷ rows) line row all one = absurd all
-SpellRows-push (l ∷ lines) [] line row all one = absurd all
-SpellRows-push (l ∷ lines) (r ∷ rows) line row all one = (all.0, SpellRows-push lines rows line row all.1 one)
+-- without a newline a text is one line
+pub one_line : (text : List ℕ) → length text ≤ position_or_len (λ b. b == 10) text → slice_split (λ b. b == 10) text ≡ text ∷ []
+one_line [] short = refl
+one_line (b ∷ text) short = by_byte (b == 10) refl (one_line text)
+  where
+    by_byte : (is : Bool) → (b == 10) ≡ is → (length text ≤ position_or_len (λ b. b == 10) text → slice_split (λ b. b == 10) text ≡ text ∷ [])
+        → slice_split (λ b. b == 10) (b ∷ text) ≡ (b ∷ text) ∷ []
+    by_byte true is one = absurd (let none : position_or_len (λ b. b == 10) (b ∷ text) ≡ 0 = rw is refl in omega (arith, none, short))
+    by_byte false is one =
+        let rest : position_or_len (λ b. b == 10) (b ∷ text) ≡ 1 + position_or_len (λ b. b == 10) text = rw is refl in
+        rw (is, one (omega (arith, rest, short))) refl
 
-take-map : (n : ℕ) (all : List (List ℕ)) → take n (map bare_line all) ≡ map bare_line (take n all)
-take-map zero all = refl
-take-map (suc n) [] = refl
-take-map (suc n) (x ∷ xs) = ap (λ ys. bare_line x ∷ ys) (take-map n xs)
+pub few_lines : (text : List ℕ) → length (lines_of text) ≤ length text + 1
+few_lines text =
+    let same = length-map (slice_split (λ b. b == 10) text) bare_line in
+    let parts = length-slice_split (λ b. b == 10) text in
+    let few = count_by-le-length (λ b. b == 10) text in
+    omega (arith, same, parts, few)
 
--- the line of this number
-pub line_at : (all : List (List ℕ)) (n : ℕ) (item : List ℕ) → n < length all → item ≡ get_or all n item → slice_get (map bare_line all) n ≡ Some (bare_line item)
-line_at [] n item below is = absurd (omega arith)
-line_at (x ∷ xs) zero item below is = ap (λ t. Some (bare_line t)) (sym is)
-line_at (x ∷ xs) (suc n) item below is = line_at xs n item (omega arith) is
+pub SpellEach-push : {T : Type 0} (Spells : List ℕ → T → Type 0) (lines : List (List ℕ)) (xs : List T) (line : List ℕ) (x : T) → SpellEach Spells lines xs
+    → Spells line x → SpellEach Spells (lines ++ (line ∷ [])) (xs ++ (x ∷ []))
+SpellEach-push Spells [] [] line x all one = (one, tt)
+SpellEach-push Spells [] (y ∷ ys) line x all one = absurd all
+SpellEach-push Spells (l ∷ lines) [] line x all one = absurd all
+SpellEach-push Spells (l ∷ lines) (y ∷ ys) line x all one = (all.0, SpellEach-push Spells lines ys line x all.1 one)
 
--- one line more
-next_lines : (all : List (List ℕ)) (n m : ℕ) (item : List ℕ) → n < length all → m ≡ n + 1 → item ≡ get_or all n item
-    → row_lines (take m (map bare_line all)) ≡ row_lines (take n (map bare_line all)) ++ row_lines (bare_line item ∷ [])
-next_lines all n m item below next is =
-    let lines = map bare_line all in
-    let grown : take m all ≡ take n all ++ (item ∷ []) =
-    ap (λ k. take k all) next ∙ take_more all n item below ∙ ap (λ t. take n all ++ (t ∷ [])) (sym is) in
-    let bare : take m lines ≡ take n lines ++ (bare_line item ∷ []) =
-    take-map m all ∙ ap (map bare_line) grown ∙ map-append bare_line (take n all) (item ∷ []) ∙ ap (λ t. t ++ (bare_line item ∷ [])) (sym (take-map n all)) in
-    ap row_lines bare ∙ filter-append is_row_line (take n lines) (bare_line item ∷ [])
+-- a line more says nothing, or spells one row more
+pub passed_line : {T : Type 0} (Spells : List ℕ → T → Type 0) (lines : List (List ℕ)) (line : List ℕ) (rows : List T) → is_row_line line ≡ false
+    → SpellEach Spells (row_lines lines) rows → SpellEach Spells (row_lines (lines ++ (line ∷ []))) rows
+passed_line Spells lines line rows comment spelled =
+    let none_more : row_lines (line ∷ []) ≡ [] = rw comment refl in
+    subst (λ ls. SpellEach Spells ls rows) (sym (filter-append is_row_line lines (line ∷ []) ∙ ap (λ ls. row_lines lines ++ ls) none_more ∙ append-nil _)) spelled
 
-pub passed_line : (all : List (List ℕ)) (n m : ℕ) (item line : List ℕ) (rows : List RowRecord) → n < length all → m ≡ n + 1 → item ≡ get_or all n item
-    → line ≡ bare_line item → is_row_line line ≡ false → SpellRows (row_lines (take n (map bare_line all))) rows → SpellRows (row_lines (take m (map bare_line all))) rows
-passed_line all n m item line rows below next is bare comment spelled =
-    let none_more : row_lines (bare_line item ∷ []) ≡ [] = (let same : is_row_line (bare_line item) ≡ false = ap is_row_line (sym bare) ∙ comment in rw same refl) in
-    let whole = next_lines all n m item below next is ∙ ap (λ t. row_lines (take n (map bare_line all)) ++ t) none_more ∙ append-nil _ in
-    subst (λ lines. SpellRows lines rows) (sym whole) spelled
+pub spelled_line : {T : Type 0} (Spells : List ℕ → T → Type 0) (lines : List (List ℕ)) (line : List ℕ) (rows : List T) (row : T) → is_row_line line ≡ true
+    → SpellEach Spells (row_lines lines) rows → Spells line row → SpellEach Spells (row_lines (lines ++ (line ∷ []))) (rows ++ (row ∷ []))
+spelled_line Spells lines line rows row is_row spelled spells =
+    let one_more : row_lines (line ∷ []) ≡ line ∷ [] = rw is_row refl in
+    subst (λ ls. SpellEach Spells ls (rows ++ (row ∷ []))) (sym (filter-append is_row_line lines (line ∷ []) ∙ ap (λ ls. row_lines lines ++ ls) one_more))
+    (SpellEach-push Spells (row_lines lines) rows line row spelled spells)
 
-pub spelled_line : (all : List (List ℕ)) (n m : ℕ) (item line : List ℕ) (rows more : List RowRecord) → n < length all → m ≡ n + 1 → item ≡ get_or all n item
-    → line ≡ bare_line item → is_row_line line ≡ true → SpellRows (row_lines (take n (map bare_line all))) rows → AddsRow rows more line
-    → SpellRows (row_lines (take m (map bare_line all))) more
-spelled_line all n m item line rows more below next is bare row_line spelled adds =
-    let one_more : row_lines (bare_line item ∷ []) ≡ line ∷ [] =
-    (let same : is_row_line (bare_line item) ≡ true = ap is_row_line (sym bare) ∙ row_line in rw same (ap (λ t. t ∷ []) (sym bare))) in
-    let whole = next_lines all n m item below next is ∙ ap (λ t. row_lines (take n (map bare_line all)) ++ t) one_more in
-    subst (λ lines. SpellRows lines more) (sym whole)
-    (subst (λ r. SpellRows (row_lines (take n (map bare_line all)) ++ (line ∷ [])) r) (sym adds.after_is)
-    (SpellRows-push (row_lines (take n (map bare_line all))) rows line adds.row spelled adds.spelled))
-
--- what is wrong with the line is what is wrong with the text
-pub fault_here : (text : List ℕ) (rows : List RowRecord) (number n : ℕ) (line : List ℕ) (fault : TableFault) → number ≡ n + 1
-    → SpellRows (row_lines (take n (lines_of text))) rows → slice_get (lines_of text) n ≡ Some line → is_row_line line ≡ true → length rows ≤ 65536
-    → IsLineFault rows number line fault → IsFaultOf text fault
-fault_here text rows number n line (Line at fault) is spelled next row_line few wrong = record {
-  line = line;
-  count = n;
-  number_is = wrong.number_is ∙ is;
-  before = record { rows = rows; spelled = spelled; next = next; is_row = row_line };
-  wrong = wrong.wrong;
-}
-fault_here text rows number n line (TooManyRows at) is spelled next row_line few wrong = record {
-  line = line;
-  count = n;
-  number_is = wrong.0 ∙ is;
-  before = record { rows = rows; spelled = spelled; next = next; is_row = row_line };
-  full = (let many = wrong.1 in omega (arith, many, few));
-}
-fault_here text rows number n line TooLong is spelled next row_line few wrong = absurd wrong
-fault_here text rows number n line Memory is spelled next row_line few wrong = record {
-  line = line;
-  count = n;
-  before = record { rows = rows; spelled = spelled; next = next; is_row = row_line };
-  row = wrong.0;
-  spelled = wrong.1;
+-- the line behind some lines of a text, and what they spell
+abbrev pub reads_before : {T : Type 0} (Spells : List ℕ → T → Type 0) (text : List ℕ) (lines more : List (List ℕ)) (line : List ℕ) (rows : List T)
+    → lines_of text ≡ lines ++ (line ∷ more) → is_row_line line ≡ true → SpellEach Spells (row_lines lines) rows → ReadsBefore Spells text (length lines) line
+reads_before Spells text lines more line rows are is_row spelled = record {
+  rows = rows;
+  spelled = subst (λ ls. SpellEach Spells (row_lines ls) rows) (sym (ap (take (length lines)) are ∙ take-append_seam lines (line ∷ more))) spelled;
+  next =
+      (let here : length lines ≡ length lines + 0 = omega arith in
+      ap (λ ls. slice_get ls (length lines)) are ∙ ap (slice_get (lines ++ (line ∷ more))) here ∙ behind lines (line ∷ more) 0);
+  is_row = is_row;
 }
 
 pub some_row : (rows : List RowRecord) → (length rows ≤ 20 → ⊥) → 0 < length rows
@@ -137,7 +117,7 @@ first_row (line ∷ lines) (row ∷ rows) spelled some = by_kind (is_row_line li
         }
 
 -- where lines spell rows, memory is wanted at the first
-pub wants_rows : (text : List ℕ) (rows : List RowRecord) → SpellRows (row_lines (lines_of text)) rows → 0 < length rows → WantsMemory text
+pub wants_rows : (text : List ℕ) (rows : List RowRecord) → SpellRows (row_lines (lines_of text)) rows → 0 < length rows → WantsMemory SpellsRow text
 wants_rows text rows spelled some =
     let first = first_row (lines_of text) rows spelled some in
     record {
@@ -147,10 +127,3 @@ wants_rows text rows spelled some =
       row = first.row;
       spelled = first.spelled;
     }
-
-pub all_lines : (all : List (List ℕ)) (n : ℕ) (rows : List RowRecord) → n ≡ length all → SpellRows (row_lines (take n (map bare_line all))) rows
-    → SpellRows (row_lines (map bare_line all)) rows
-all_lines all n rows every spelled =
-    let len = length-map all bare_line in
-    let whole : take n (map bare_line all) ≡ map bare_line all = take_all n (map bare_line all) (omega (arith, len, every)) in
-    subst (λ lines. SpellRows (row_lines lines) rows) whole spelled

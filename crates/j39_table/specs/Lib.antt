@@ -11,7 +11,8 @@ pub mod Spelled
 pub mod Faults
 pub mod FaultWords
 pub mod Tables
+pub mod Names
 pub mod ReadsBack
 -- the code's steps, below the rules
 pub mod Agreement
-pub mod RowsSoFar
+pub mod Taking

@@ -1,6 +1,6 @@
-//! Why a line of a table is refused.
+//! Why a line of a table, or of names, is refused.
 ghost use Rattle.std.specs.Prelude.{◌≡◌};
-ghost use Rattle.j39_table.specs.FaultWords.{row_fault_words};
+ghost use Rattle.j39_table.specs.FaultWords.{name_fault_words, row_fault_words};
 
 use std::fmt;
 use thiserror::Error;
@@ -58,12 +58,53 @@ impl fmt::Display for RowFault {
     }
 }
 
-/// Why a table is refused. Lines count from 1.
+/// Why a line of names is refused, by the first of these that it is.
+#[derive(Clone, Copy, Debug, PartialEq, Eq)]
+pub enum NameFault {
+    /// The first word is no kind of number.
+    Kind,
+    /// The second word is no number of this kind.
+    Number,
+    /// No name stands behind the number.
+    Name,
+    /// A line before names this number.
+    Twice,
+}
+
+impl NameFault {
+    /// What is said of it.
+    pub fn words(self) -> &'static str
+        ensures { result.now ≡ name_fault_words self }
+    {
+        match self {
+            NameFault::Kind => "no kind",
+            NameFault::Number => "no number of its kind",
+            NameFault::Name => "no name",
+            NameFault::Twice => "named before",
+        }
+    }
+}
+
+impl fmt::Display for NameFault {
+    ghost use Rattle.std.specs.Prelude.{Some};
+    ghost use Rattle.j39_table.specs.FaultWords.{name_fault_words};
+
+    ghost output = { λ fault. Some (name_fault_words fault) };
+
+    fn fmt<W: fmt::Write>(&self, f: &mut fmt::Formatter<W>) -> fmt::Result {
+        f.write_str(self.words())
+    }
+}
+
+/// Why a table is refused, or names of one's own are. Lines count from 1.
 #[derive(Clone, Copy, Debug, PartialEq, Eq, Error)]
 pub enum TableFault {
     /// The line of this number is the first that is no comment and spells no row, by its first wrong column.
     #[error("line {0}: {1}")]
     Line(u32, RowFault),
+    /// The line of this number is the first that is no comment and names no number that none before it names.
+    #[error("line {0}: {1}")]
+    Name(u32, NameFault),
     /// The line of this number comes behind 65,536 rows, and is no comment.
     #[error("line {0}: more than 65536 rows")]
     TooManyRows(u32),

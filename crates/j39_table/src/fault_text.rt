@@ -17,6 +17,9 @@ impl TableFault {
             TableFault::Line(number, fault) => {
                 push_line(&mut text, number, fault.words().as_bytes());
             }
+            TableFault::Name(number, fault) => {
+                push_line(&mut text, number, fault.words().as_bytes());
+            }
             TableFault::TooManyRows(number) => push_line(
                 &mut text,
                 number,

@@ -44,7 +44,7 @@ pub(crate) fn columns_of(line: &[u8]) -> Columns<'_>
 
 /// The first word of a text, and what follows it.
 #[tactic(auto, unfolding(crate::specs::Lines::first_word, crate::specs::Lines::behind_word))]
-fn word(text: &[u8]) -> (&[u8], &[u8])
+pub(crate) fn word(text: &[u8]) -> (&[u8], &[u8])
     ensures word { result.0.now ≡ first_word text.now }
     ensures rest { result.1.now ≡ behind_word text.now }
 {

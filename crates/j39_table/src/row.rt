@@ -29,7 +29,7 @@ pub fn read_row(line: &[u8]) -> Result<Row<'_>, RowFault>
     row_of(columns_of(line))
 }
 
-fn row_of(columns: Columns<'_>) -> Result<Row<'_>, RowFault>
+pub(crate) fn row_of(columns: Columns<'_>) -> Result<Row<'_>, RowFault>
     ensures { HasRow (column_texts columns.entry) result }
 {
     let Some(pgn) = group_in(columns.pgn) else {

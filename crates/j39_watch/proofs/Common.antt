@@ -42,6 +42,7 @@ pub use Rattle.j39_listen.specs.Report.{Entry, entries_of, entry_of, name_text}
 pub use Rattle.j39_listen.specs.declared.listener.Listener.{Listener}
 pub use Rattle.j39_log.specs.StampText.{stamp_text}
 pub use Rattle.j39_memory.specs.ByOrigin.{pairs_of}
+pub use Rattle.j39_names.specs.Naming.{NamingRecord, naming_of}
 pub use Rattle.std.proofs.Math.Bool.{or_comm}
 pub use Rattle.std.proofs.lemmas.Bool.{both_ways, or_parts}
 pub use Rattle.std.proofs.lemmas.Grind.{flat_map-append}

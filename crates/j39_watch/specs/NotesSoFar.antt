@@ -13,13 +13,14 @@ use Rattle.j39_listen.specs.Report.{Entry, entries_of}
 use Rattle.j39_listen.specs.declared.listener.Listener.{Listener}
 use Rattle.j39_memory.specs.ByOrigin.{pairs_of}
 use Rattle.j39_fault_reports.specs.CurrentPlaces.{LastActives}
-use Rattle.j39_fault_reports.specs.CurrentSoFar.{AreKept, shown_below}
+use Rattle.j39_fault_reports.specs.CurrentSoFar.{AreKept, taken_below}
 use Rattle.j39_fault_reports.specs.Spoken.{active_among}
 use Rattle.j39_watch.specs.LatestSoFar.{AreLatest}
 use Rattle.j39_fault_reports.specs.News.{is_fault_group}
 use Rattle.j39_watch.specs.ScreenSoFar.{lines_of_faults}
+use Rattle.j39_names.specs.Naming.{NamingRecord, naming_of}
 use Rattle.j39_reports.specs.SummaryRun.{WantsRow}
-use Rattle.j39_watch.specs.Watch.{AreDrawn, Size, entries_asked, newest, nows_asked, screen_text}
+use Rattle.j39_watch.specs.Watch.{AreDrawn, Line, Size, entries_asked, newest, screen_text}
 use Rattle.j39_watch.specs.declared.account.Screens.{Screens}
 use Rattle.j39_watch.specs.declared.size.ScreenSize.{ScreenSize}
 use Rattle.j39_watch.specs.declared.values.Values.{Values}
@@ -48,29 +49,31 @@ pub record Notes (groups : List RowRecord) (which : FilterRecord) (F : List Fram
   pub are_kept : AreKept [] places (ms ++ in_time which (first_stamp (F ++ f ∷ [])) (active_among (or_none fault)))
   pub messages_are : messages ≡ length (or_none heard)
 
--- by which table it is watched, what is asked for, and how large its screens are
+-- by which names and groups it is watched, what is asked for, and how large its screens are
 pub record Watching : Type 0 where
+  pub naming : NamingRecord
   pub groups : List RowRecord
   pub which : FilterRecord
   pub size : Size
 
 abbrev pub size_of : ScreenSize → Size
-size_of size = record { rows = size.rows; width = size.width }
+size_of size = record { rows = size.rows; width = size.width; is_coloured = size.is_coloured; clock = size.clock }
 
 -- the moment of its screen
 abbrev pub moment_of : Screens → ℕ
 moment_of watch = unwrap_or (option_map stamp_micros watch.moment.last) 0
 
 -- the lines of its screen, and the screen, of what is asked for
-abbrev pub lines_of_watch : FilterRecord → ℕ → Screens → List (List ℕ)
+abbrev pub lines_of_watch : FilterRecord → ℕ → Screens → List Line
 lines_of_watch which first watch =
-    lines_of_faults watch.roles.groups.now watch.listener (moment_of watch) (nows_asked which first (shown_below watch.places 256)) watch.values
+    lines_of_faults watch.size.clock (naming_of watch.naming) watch.listener (moment_of watch) (taken_below which first watch.places 256) watch.values
 
 abbrev pub screen_of_watch : FilterRecord → ℕ → Screens → List ℕ
 screen_of_watch which first watch = screen_text (size_of watch.size) (lines_of_watch which first watch)
 
--- what it keeps is of F, by this table, of what is asked for, for screens of this size
-pub record Keeps (groups : List RowRecord) (which : FilterRecord) (size : Size) (watch : Screens) (F : List FrameRecord) : Type 0 where
+-- what it keeps is of F, by these names and groups, of what is asked for, for screens of this size
+pub record Keeps (naming : NamingRecord) (groups : List RowRecord) (which : FilterRecord) (size : Size) (watch : Screens) (F : List FrameRecord) : Type 0 where
+  pub named : naming_of watch.naming ≡ naming
   pub by : watch.roles.groups.now ≡ groups
   pub size_is : size_of watch.size ≡ size
   pub last_is : option_map stamp_micros watch.moment.last ≡ newest (reverse F)
@@ -85,6 +88,6 @@ pub record Keeps (groups : List RowRecord) (which : FilterRecord) (size : Size) 
   pub messages_are : watch.messages ≡ capped (length heard)
 
 -- F was watched, and its screens so far drawn
-pub record HasWatched (groups : List RowRecord) (which : FilterRecord) (size : Size) (watch : Screens) (F : List FrameRecord) (output : Output) : Type 0 where
-  pub keeps : Keeps groups which size watch F
-  pub drawn : AreDrawn groups which size F (length F) output.text
+pub record HasWatched (naming : NamingRecord) (groups : List RowRecord) (which : FilterRecord) (size : Size) (watch : Screens) (F : List FrameRecord) (output : Output) : Type 0 where
+  pub keeps : Keeps naming groups which size watch F
+  pub drawn : AreDrawn naming groups which size F (length F) output.text

@@ -10,6 +10,7 @@ ghost use Rattle.j39_listen.specs.Filter.{FilterRecord, first_stamp};
 ghost use Rattle.j39_listen.specs.Output.{nothing};
 ghost use Rattle.j39_listen.specs.Ran.{PassesOn, Ran};
 ghost use Rattle.j39_listen.specs.declared.account.LineFault.TheVariants.{Write};
+ghost use Rattle.j39_names.specs.Naming.{naming_of};
 ghost use Rattle.j39_watch.specs.NotesSoFar.{HasWatched, lines_of_watch, screen_of_watch, size_of};
 ghost use Rattle.j39_watch.specs.Watch.{AsksForWatch, MakesWatch, fitted};
 
@@ -28,17 +29,28 @@ use j39_listen::{
     Account, Chooser, Counts, Filter, LineFault, Listener, Made, Roles, RunFault, run_over,
 };
 use j39_log::Bus;
+use j39_names::Naming;
 use std::alloc::{AllocError, Global};
 
+/// What is watched.
+#[derive(Clone, Copy)]
+pub struct Watched<'w, 't> {
+    /// By which names faults and values are told.
+    pub naming: Naming<'w, 't>,
+    /// The groups whose values are shown: those of the naming's table, or some of its rows.
+    pub groups: &'w Groups<'t>,
+    /// What is taken of faults and values; `None` for all.
+    pub filter: Option<Filter<'w>>,
+    /// How large screens are, and how they tell things.
+    pub size: ScreenSize,
+}
+
 /// Writes, for a log of at most `limit` bytes, a screen at the first frame of each half second of its stamps, and one at the
-/// end: the stamp of the last frame, the faults of the controllers that are on the bus, and by a table of parameters their
-/// last values, in the order in which their first came; of both what a filter takes, if one is given. A screen begins with the cursor's way home (ECMA-48), so that it
+/// end: the stamp of the last frame, the faults of the controllers that are on the bus, and their last values of some groups, in the order in which their first came; of both what a filter takes, if one is given. A screen begins with the cursor's way home (ECMA-48), so that it
 /// stands over the one before. Without a bus it is that of the first frame in the log.
 pub fn watch<R: Source, W: Sink>(
     alloc: Global,
-    groups: &Groups<'_>,
-    filter: Option<Filter<'_>>,
-    size: ScreenSize,
+    watched: Watched<'_, '_>,
     source: &mut R,
     sink: &mut W,
     bus: Option<Bus>,
@@ -46,24 +58,20 @@ pub fn watch<R: Source, W: Sink>(
 ) -> Result<Counts, RunFault>
     // What the run promises is `Ran`: what is written is these screens, and nothing else. Memory is wanted only at a frame
     // that announces a message, at the first value of a parameter, at a text, and at the first DM1 of an address.
-    ensures ran { Ran (MakesWatch groups.now (which_of filter.entry) (size_of size)) (AsksForWatch groups.now (which_of filter.entry)) bus limit result
+    ensures ran { Ran (MakesWatch (naming_of watched.entry.naming) watched.entry.groups.now (which_of watched.entry.filter) (size_of watched.entry.size))
+        (AsksForWatch watched.entry.groups.now (which_of watched.entry.filter)) bus limit result
         (turn R.remaining R.has_failed source.old source.new) (turn W.written W.has_failed sink.old sink.new) }
 
     // What was written is passed on at the end, and before each read.
     ensures flushed { PassesOn result (W.is_flushed sink.old) (W.is_flushed sink.new) }
 {
-    run_over(
-        Screens::new(alloc, groups, filter, size),
-        source,
-        sink,
-        bus,
-        limit,
-    )
+    run_over(Screens::new(alloc, watched), source, sink, bus, limit)
 }
 
 /// What was heard so far, and what its screens show.
 #[derive(Drop)]
 pub(crate) struct Screens<'g, 't> {
+    naming: Naming<'g, 't>,
     roles: Roles<'g, 't>,
     size: ScreenSize,
     chooser: Chooser<'g>,
@@ -76,18 +84,14 @@ pub(crate) struct Screens<'g, 't> {
 
 impl<'g, 't> Screens<'g, 't> {
     /// That of no frames.
-    fn new(
-        alloc: Global,
-        groups: &'g Groups<'t>,
-        filter: Option<Filter<'g>>,
-        size: ScreenSize,
-    ) -> Screens<'g, 't>
-        ensures { HasWatched groups.entry.now (which_of filter.entry) (size_of size) result [] nothing }
+    fn new(alloc: Global, watched: Watched<'g, 't>) -> Screens<'g, 't>
+        ensures { HasWatched (naming_of watched.entry.naming) watched.entry.groups.now (which_of watched.entry.filter) (size_of watched.entry.size) result [] nothing }
     {
         Screens {
-            roles: Roles::new(groups),
-            size,
-            chooser: Chooser::new(filter),
+            naming: watched.naming,
+            roles: Roles::new(watched.groups),
+            size: watched.size,
+            chooser: Chooser::new(watched.filter),
             listener: Listener::new(alloc),
             places: LastActives::new(),
             values: Values::new(alloc),
@@ -106,10 +110,10 @@ impl<'g, 't> Screens<'g, 't> {
         ensures mark { Marks result (W.has_failed sink.old) (W.has_failed sink.new) }
     {
         let view = View {
-            groups: self.roles.groups,
+            naming: self.naming,
             listener: &self.listener,
             now: moment_of(self.moment.last),
-            width: self.size.width(),
+            size: self.size,
         };
         let asked = AskedPlaces::new(&self.chooser, &self.places);
         put_screen(view, self.size.rows(), &asked, &self.values, sink)
@@ -132,9 +136,9 @@ impl<'g, 't> Account for Screens<'g, 't> {
 
     ghost Subject = { Watching };
 
-    ghost has_met = { λ subject bus. HasWatched subject.groups subject.which subject.size };
+    ghost has_met = { λ subject bus. HasWatched subject.naming subject.groups subject.which subject.size };
 
-    ghost makes = { λ subject. MakesWatch subject.groups subject.which subject.size };
+    ghost makes = { λ subject. MakesWatch subject.naming subject.groups subject.which subject.size };
 
     ghost asks = { λ subject. AsksForWatch subject.groups subject.which };
 

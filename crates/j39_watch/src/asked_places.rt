@@ -1,11 +1,11 @@
 //! The faults that are asked for, by their places.
 ghost use Rattle.std.specs.Prelude.{◌≡◌, ◌<◌, [], ℕ, List, if◌then◌else◌, option_map};
 ghost use Rattle.j39_fault_reports.specs.CurrentPlaces.{at};
-ghost use Rattle.j39_fault_reports.specs.CurrentSoFar.{nows_shown};
+ghost use Rattle.j39_fault_reports.specs.CurrentSoFar.{told_shown};
+ghost use Rattle.j39_fault_reports.specs.FaultsNow.{now_taken};
 ghost use Rattle.j39_frame.specs.Frame.{FrameRecord};
 ghost use Rattle.j39_listen.specs.Chooses.{Chooses};
 ghost use Rattle.j39_listen.specs.Filter.{FilterRecord, first_stamp};
-ghost use Rattle.j39_watch.specs.Watch.{nows_asked};
 
 use j39_fault_reports::{LastActive, LastActives, SOURCES};
 use j39_listen::Chooser;
@@ -31,7 +31,7 @@ impl<'p> AskedPlaces<'p> {
     /// Those that this chooser takes.
     pub fn new(chooser: &Chooser<'_>, places: &'p LastActives) -> AskedPlaces<'p>
         ensures { (which : FilterRecord) (F : List FrameRecord) → Chooses which chooser.now F → (a : ℕ) → a < 256
-            → nows_shown a (at result a) ≡ nows_asked which (first_stamp F) (nows_shown a (at places.entry.now a)) }
+            → told_shown a (at result a) ≡ now_taken which (first_stamp F) (told_shown a (at places.entry.now a)) }
     {
         let mut are_asked = [false; SOURCES];
         for address in 0..SOURCES {
@@ -57,8 +57,8 @@ impl<'p> AskedPlaces<'p> {
 fn is_asked(chooser: &Chooser<'_>, places: &LastActives, address: usize) -> bool
     requires { address < 256 }
     ensures { (which : FilterRecord) (F : List FrameRecord) → Chooses which chooser.now F
-        → (if result then nows_shown address (at places.now address) else [])
-        ≡ nows_asked which (first_stamp F) (nows_shown address (at places.now address)) }
+        → (if result then told_shown address (at places.now address) else [])
+        ≡ now_taken which (first_stamp F) (told_shown address (at places.now address)) }
 {
     match places.get(address) {
         Some(last) => {

@@ -9,9 +9,10 @@ mod lines;
 mod moment;
 mod note;
 mod screen;
+mod severity;
 mod size;
 mod values;
 mod view;
 
-pub use account::watch;
+pub use account::{Watched, watch};
 pub use size::ScreenSize;

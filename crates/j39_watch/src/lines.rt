@@ -1,8 +1,11 @@
 //! The lines of a screen.
-ghost use Rattle.std.specs.Prelude.{◌≡◌, ◌+◌, ◌<◌, ◌≤◌, ◌++◌, ◌∷◌, [], IfSome, None, Some, codes, decimal, length, option_map, take, unwrap_or};
+ghost use Rattle.std.specs.Prelude.{◌≡◌, ◌+◌, ◌<◌, ◌≤◌, ◌++◌, ◌∷◌, [], IfSome, None, codes, decimal, length, option_map, take, unwrap_or};
+ghost use Rattle.std.specs.Option.{option_or};
 ghost use Rattle.hex.specs.Hex.{encode_upper};
 ghost use Rattle.j39_address.specs.Name.{name_raw};
 ghost use Rattle.j39_frame.specs.Stamp.{stamp_micros};
+ghost use Rattle.j39_fault_reports.specs.FaultRows.{saying_text};
+ghost use Rattle.j39_fault_reports.specs.Faults.{active_or_lights};
 ghost use Rattle.j39_groups.specs.Models.{scale_record};
 ghost use Rattle.j39_groups.specs.ValueText.{number_text, value_text};
 ghost use Rattle.j39_io.specs.Backwards.{WritesBefore};
@@ -10,30 +13,45 @@ ghost use Rattle.j39_io.specs.Puts.{Puts};
 ghost use Rattle.j39_io.specs.Turn.{turn};
 ghost use Rattle.j39_listen.specs.Report.{name_text};
 ghost use Rattle.j39_watch.specs.LatestSoFar.{latest_at, latest_row};
+ghost use Rattle.j39_names.specs.Naming.{naming_of, own_name};
+ghost use Rattle.j39_names.specs.declared.naming.Kind.TheVariants.{Parameter};
 ghost use Rattle.j39_reports.specs.RowModels.{kept_value};
-ghost use Rattle.j39_watch.specs.Watch.{age_text, column, controller_columns, destination_text, is_inside, letter_end, moment_text, more_text, row_shown, said_text, state_behind, tenths, value_line};
+ghost use Rattle.j39_watch.specs.NotesSoFar.{size_of};
+ghost use Rattle.j39_watch.specs.Watch.{age_text, column, controller_columns, destination_text, fault_line, is_inside, letter_end, moment_text, more_text, row_shown, state_behind, tenths, value_text_line};
 
 use crate::cut_line::{BLANK, Block, CutLine, END};
 use crate::latest::Latest;
+use crate::severity::Severity;
+use crate::size::ScreenSize;
 use crate::view::View;
-use arrayvec::ArrayVec;
 use j39_address::Name;
-use j39_fault_reports::name_in;
-use j39_faults::{Code, Kind, Lamps, State, put_code};
+use j39_fault_reports::put_active;
+use j39_faults::{Code, Lamps};
 use j39_frame::{Origin, Stamp};
-use j39_groups::{Groups, Slot, put_value};
+use j39_groups::{Slot, put_value};
 use j39_io::backwards::{byte_before, bytes_before, hex_before, number_before, slice_before};
 use j39_io::{DeviceFault, Sink, put_all};
-use j39_log::push_stamp;
+use j39_names::{Kind, Named, Naming};
 use j39_reports::{StoredValue, scaled_before};
+use j39_rows::moment_text as clock_text;
 
-/// Writes a line of at most so many bytes, of which the byte behind them may be kept too, and erases what stands behind it.
+/// Writes a line in its colour, of at most so many bytes as fit, of which the byte behind them may be kept too, and erases what
+/// stands behind it.
 #[inline(always)]
-pub(crate) fn put_line<W: Sink>(line: &CutLine, width: u16, sink: &mut W) -> Result<(), DeviceFault>
-    ensures { Puts (row_shown width line.now.bytes.items) result (turn W.written W.has_failed sink.old sink.new) }
+pub(crate) fn put_line<W: Sink>(
+    size: ScreenSize,
+    severity: Severity,
+    line: &CutLine,
+    sink: &mut W,
+) -> Result<(), DeviceFault>
+    ensures { Puts (row_shown (size_of size) (record { severity = severity; text = line.now.bytes.items })) result
+        (turn W.written W.has_failed sink.old sink.new) }
 {
-    put_all(sink, whole_letters(line.as_slice(), usize::from(width)))?;
-    put_all(sink, b"\x1B[K\n")
+    let colour = size.colour_of(severity);
+    let text = whole_letters(line.as_slice(), usize::from(size.width()));
+    put_all(sink, colour.begin())?;
+    put_all(sink, text)?;
+    put_all(sink, colour.end())
 }
 
 /// As many bytes as fit and end with a letter.
@@ -70,56 +88,52 @@ fn is_inside(byte: u8) -> bool
 
 /// The line of the moment of a view.
 pub(crate) fn moment_line(view: View<'_, '_>) -> CutLine
-    ensures { result.bytes.items ≡ take (view.entry.width + 1) (moment_text (stamp_micros view.entry.now)) }
+    ensures { result.bytes.items ≡ take (view.entry.size.width + 1) (moment_text view.entry.size.clock (stamp_micros view.entry.now)) }
 {
-    let mut text: ArrayVec<u8, 19> = ArrayVec::new();
-    push_stamp(&mut text, view.now);
-    let mut line = CutLine::new(usize::from(view.width) + 1);
+    let mut line = CutLine::new(usize::from(view.size.width()) + 1);
     line.push(b"last frame at ");
-    line.push(text.as_slice());
+    line.push(clock_text(view.size.clock(), view.now).as_slice());
     line
 }
 
 /// The line that says how many more there are.
-pub(crate) fn more_line(width: u16, more: u64) -> CutLine
-    requires { width ≤ 512 }
-    ensures { result.bytes.items ≡ take (width + 1) (more_text more) }
+pub(crate) fn more_line(size: ScreenSize, more: u64) -> CutLine
+    ensures { result.bytes.items ≡ take (size.width + 1) (more_text more) }
 {
-    let mut line = CutLine::new(usize::from(width) + 1);
+    let mut line = CutLine::new(usize::from(size.width()) + 1);
     push_number_column(&mut line, 0, more);
     line.push(b"more");
     line
 }
 
-/// The line of a code of the last message of a controller, which came then.
+/// The line of a code of the last message of a controller, which came then; or, of none, of its lamps.
 pub(crate) fn fault_line(
     view: View<'_, '_>,
     address: u8,
     name: Option<Name>,
     then: Stamp,
     lamps: Lamps,
-    code: Code,
+    code: Option<Code>,
 ) -> CutLine
-    ensures { result.bytes.items ≡ take (view.entry.width + 1) (controller_columns address None (option_map name_raw name)
-        ++ column 6 (age_text (tenths (stamp_micros view.entry.now) (stamp_micros then)))
-        ++ said_text view.entry.groups.now lamps (Some code)) }
+    ensures { result.bytes.items ≡ take (view.entry.size.width + 1) (fault_line (naming_of view.entry.naming) (stamp_micros view.entry.now)
+        address (option_map name_raw name) (stamp_micros then) (active_or_lights lamps code)).text }
 {
-    let mut line = CutLine::new(usize::from(view.width) + 1);
+    let mut line = CutLine::new(usize::from(view.size.width()) + 1);
     push_controller(&mut line, address, None, name.map(Name::raw));
-    push_age(&mut line, view.now, then);
-    push_said(&mut line, view.groups, lamps, code);
+    push_age(&mut line, 5, view.now, then);
+    push_said(&mut line, view.naming, lamps, code);
     line
 }
 
 /// Makes a line that of a value.
 pub(crate) fn make_value_line(
     line: &mut CutLine,
-    groups: &Groups<'_>,
+    naming: Naming<'_, '_>,
     now: Stamp,
     origin: Origin,
     latest: &Latest<'_>,
 )
-    ensures cut { line.new.bytes.items ≡ take line.old.width (value_line groups.now (stamp_micros now)
+    ensures cut { line.new.bytes.items ≡ take line.old.width (value_text_line (naming_of naming.entry) (stamp_micros now)
         (latest_at (stamp_micros now) (latest_row (origin, latest.now)))) }
     ensures width { line.new.width ≡ line.old.width }
 {
@@ -128,21 +142,30 @@ pub(crate) fn make_value_line(
     push_number_column(line, 6, u64::from(origin.pgn));
     push_number_column(line, 6, u64::from(origin.spn));
     push_value_column(line, &latest.seen.value);
-    push_age(line, now, latest.seen.stamp);
+    push_age(line, 6, now, latest.seen.stamp);
     push_came(line, latest.came_before(now));
     let value = latest.seen.value.value();
-    let (name, state) = groups.called_in(origin.pgn, origin.spn, value);
-    line.push(name_or_dash(name));
+    let (name, state) = naming.groups.called_in(origin.pgn, origin.spn, value);
+    line.push(name_or_dash(own_name(naming.own, origin.spn), name));
     push_state(line, state);
 }
 
-/// What a parameter is called, or a dash.
-fn name_or_dash(name: Option<&[u8]>) -> &[u8]
-    ensures { result.now ≡ unwrap_or (option_map (λ name. name.now) name.entry) (codes "-") }
+/// What a parameter is called by one's own names.
+fn own_name<'n>(own: &[Named<'n>], spn: u32) -> Option<&'n [u8]>
+    ensures { option_map (λ name. name.now) result ≡ own_name own.now Parameter spn }
 {
-    match name {
-        Some(name) => name,
-        None => b"-",
+    let named = own.iter().find(|named| named.is_of(Kind::Parameter, spn))?;
+    Some(named.name)
+}
+
+/// One's own name, or else that of the table; or a dash.
+fn name_or_dash<'n>(own: Option<&'n [u8]>, name: Option<&'n [u8]>) -> &'n [u8]
+    ensures { result.now ≡ unwrap_or (option_or (option_map (λ name. name.now) own.entry) (option_map (λ name. name.now) name.entry)) (codes "-") }
+{
+    match (own, name) {
+        (Some(own), _) => own,
+        (None, Some(name)) => name,
+        (None, None) => b"-",
     }
 }
 
@@ -285,11 +308,12 @@ fn measure_before(block: &mut Block, number: i64, scale: Slot<'_>) -> Option<usi
     scaled_before(block, space, number, scale.places())
 }
 
-/// Appends how old a value is, in its column.
+/// Appends how old a value is, in a column.
 #[tactic(auto, using(j39_rows::proofs::NumberLemmas::short_decimal))]
-fn push_age(line: &mut CutLine, now: Stamp, then: Stamp)
+fn push_age(line: &mut CutLine, width: usize, now: Stamp, then: Stamp)
+    requires { width ≤ 16 }
     ensures cut { line.new.bytes.items ≡ take line.old.width (line.old.bytes.items
-        ++ column 6 (age_text (tenths (stamp_micros now) (stamp_micros then)))) }
+        ++ column width (age_text (tenths (stamp_micros now) (stamp_micros then)))) }
     ensures width { line.new.width ≡ line.old.width }
 {
     let tenths = now.micros().saturating_sub(then.micros()) / 100_000;
@@ -298,7 +322,7 @@ fn push_age(line: &mut CutLine, now: Stamp, then: Stamp)
     let tenth = number_before(&mut block, second, tenths % 10);
     let point = byte_before(&mut block, tenth, b'.');
     let start = number_before(&mut block, point, tenths / 10);
-    line.push_column(6, &block, start);
+    line.push_column(width, &block, start);
 }
 
 /// Appends how many came in a second, in its column.
@@ -333,17 +357,11 @@ fn push_kept(line: &mut CutLine, value: &StoredValue<'_>)
     let _ = put_value(&value.value(), line);
 }
 
-/// Appends what is said of a code; a line that is full keeps a front of it.
-fn push_said(line: &mut CutLine, groups: &Groups<'_>, lamps: Lamps, code: Code)
+/// Appends what is said of a code, or, of none, of the lamps; a line that is full keeps a front of it.
+fn push_said(line: &mut CutLine, naming: Naming<'_, '_>, lamps: Lamps, code: Option<Code>)
     ensures cut { line.new.bytes.items ≡ take line.old.width (line.old.bytes.items
-        ++ said_text groups.now lamps (Some code)) }
+        ++ saying_text (naming_of naming.entry) (active_or_lights lamps code)) }
     ensures width { line.new.width ≡ line.old.width }
 {
-    let _ = put_code(
-        State::Is(Kind::Active),
-        lamps,
-        name_in(groups, code),
-        code,
-        line,
-    );
+    let _ = put_active(&naming, lamps, code, line);
 }

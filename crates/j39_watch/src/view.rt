@@ -1,20 +1,20 @@
 //! From where a screen is seen.
-ghost use Rattle.std.specs.Prelude.{◌≡◌, ◌≤◌};
+ghost use Rattle.std.specs.Prelude.{◌≡◌};
 ghost use Rattle.j39_listen.specs.Listening.{holder_of};
 ghost use Rattle.j39_watch.specs.Watch.{is_there};
 
+use crate::size::ScreenSize;
 use j39_frame::Stamp;
-use j39_groups::Groups;
 use j39_listen::Listener;
+use j39_names::Naming;
 
-/// From where a screen is seen: its table, who holds which address, its moment, how many bytes a line has.
+/// From where a screen is seen: its names and their table, who holds which address, its moment, and how large it is.
 #[derive(Clone, Copy)]
 pub(crate) struct View<'v, 't> {
-    pub groups: &'v Groups<'t>,
+    pub naming: Naming<'v, 't>,
     pub listener: &'v Listener,
     pub now: Stamp,
-    pub width: u16,
-    pub ghost narrow: { width ≤ 512 },
+    pub size: ScreenSize,
 }
 
 impl<'v, 't> View<'v, 't> {

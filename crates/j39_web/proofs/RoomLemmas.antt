@@ -4,6 +4,7 @@ use Rattle.std.proofs.lemmas.Bool.{false≢true}
 use Rattle.std.specs.Prelude.{IfErr, IfOk, MatchResult, None, OnErr, OnOk, Ok, Err, Result}
 use Rattle.std.specs.Io.KnownBytes.{Appends}
 use Rattle.std.specs.Result.{is_ok}
+use Rattle.j39_names.specs.Naming.{by_table}
 use Rattle.j39_io.specs.Device.{AppendsFront}
 use Rattle.j39_io.specs.declared.device.DeviceFault.{DeviceFault}
 use Rattle.j39_log.specs.Log.{frames_of}
@@ -42,7 +43,7 @@ makes_one Report rows = whole_one (λ table. entry_text) rows
 makes_one Records rows = λ bus F x y (a, made_a, is_a) (b, made_b, is_b).
     ap (λ (o : Output). o.text) is_a ∙ ap (λ t. header_text ++ t) (report_one entry_record (record { rows = rows; which = no_filter }) bus F a b made_a made_b) ∙ sym (ap (λ (o : Output). o.text) is_b)
 makes_one Summary rows = records_one no_filter rows
-makes_one Faults rows = news_one Seconds (record { manner = manner_in (Line Seconds) rows None; which = news })
+makes_one Faults rows = news_one Seconds (record { manner = manner_in (Line Seconds) (by_table rows) None; which = news })
 makes_one (Series of) rows = whole_one (series_form of) rows
 
 first : ℕ → List ℕ → ℕ
@@ -98,15 +99,15 @@ overflows makes one given log log' (Err TooLong) z n m k xs ys room l e made fro
 surveyed_made : (asked : Asked) (log : List ℕ) (n m k : ℕ) (ys room : List ℕ)
     → WritesSurvey asked log (Some (n ∷ [])) (Some (m ∷ take k ys)) → k ≡ length ys → (n ≡ m → ys ≡ room) → SurveyOverflows asked log room
 surveyed_made asked log n m k ys room w full same = λ lines heard are together.
-    let mine = survey_text asked.form asked.table asked.given w.lines w.heard in
-    let text = same_survey asked.form asked.table asked.given log w.lines lines w.heard heard w.are_lines are w.are_heard together in
-    fills n m k ys room mine [] (survey_text asked.form asked.table asked.given lines heard) w.written (sym text ∙ sym (append-nil mine)) full same
+    let mine = survey_text asked.form asked.naming asked.given w.lines w.heard in
+    let text = same_survey asked.form asked.naming asked.given log w.lines lines w.heard heard w.are_lines are w.are_heard together in
+    fills n m k ys room mine [] (survey_text asked.form asked.naming asked.given lines heard) w.written (sym text ∙ sym (append-nil mine)) full same
 
 surveyed_front : (asked : Asked) (log : List ℕ) (n m k : ℕ) (ys room : List ℕ)
     → WritesSurveyFront asked log (Some (n ∷ [])) (Some (m ∷ take k ys)) → k ≡ length ys → (n ≡ m → ys ≡ room) → SurveyOverflows asked log room
 surveyed_front asked log n m k ys room h full same = λ lines heard are together.
     let f = h lines heard are together in
-    fills n m k ys room f.0 f.1 (survey_text asked.form asked.table asked.given lines heard) f.3 f.2 full same
+    fills n m k ys room f.0 f.1 (survey_text asked.form asked.naming asked.given lines heard) f.3 f.2 full same
 
 -- where a survey has no room
 pub survey_overflows : {U : Type 0} (asked : Asked) (log log' : List ℕ) (ran : Result U RunFault) (counted : Result Counts RunFault)

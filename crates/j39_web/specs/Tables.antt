@@ -5,6 +5,7 @@ use Rattle.j39_groups.specs.Readings.{HaveSameGroups, rows_of_spns}
 use Rattle.j39_groups.specs.Row.{RowRecord}
 use Rattle.j39_groups.specs.Table.{the_table}
 use Rattle.j39_table.specs.FaultWords.{fault_text}
+use Rattle.j39_table.specs.Spelled.{SpellsRow}
 use Rattle.j39_table.specs.Tables.{IsFaultOf, IsTableOf, WantsMemory}
 use Rattle.j39_table.specs.declared.fault.TableFault.{TableFault}
 use Rattle.j39_table.specs.declared.fault.TableFault.TheVariants.{Memory}
@@ -35,7 +36,7 @@ IsWrongTable given = (fault : TableFault) × IsNoTable given fault
 
 -- the rows of the table that is given want memory
 abbrev pub WantsRows : List ℕ → Type 0
-WantsRows given = WantsMemory given
+WantsRows given = WantsMemory SpellsRow given
 
 -- the room is full of what is written of the table, or of why it is none
 abbrev pub TableOverflows : List ℕ → List ℕ → Type 0

@@ -57,4 +57,4 @@ IsSurveyed asked log text room = WritesSurvey asked log (Some []) (Some (take te
 abbrev pub SurveyOverflows : Asked → List ℕ → List ℕ → Type 0
 SurveyOverflows asked log room = (lines : List LogLine) (heard : List Hearing) → AreLogLines log lines
     → ArePutTogether (frames_of asked.given (spelled_in lines)) heard
-    → IsFullOf (survey_text asked.form asked.table asked.given lines heard) room
+    → IsFullOf (survey_text asked.form asked.naming asked.given lines heard) room

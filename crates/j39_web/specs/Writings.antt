@@ -1,4 +1,5 @@
 -- What is written of a log by a table.
+use Rattle.j39_names.specs.Naming.{by_table}
 use Rattle.j39_groups.specs.Row.{RowRecord}
 use Rattle.std.specs.Prelude.{List, None}
 use Rattle.j39_listen.specs.Asking.{AsksForBoxes, Wanting}
@@ -28,7 +29,7 @@ abbrev pub makes : Writing → List RowRecord → Making
 makes Report = MakesReport
 makes Records = MakesTable
 makes Summary = MakesSummary Record no_filter
-makes Faults = λ rows. MakesFaults (Line Seconds) (manner_in (Line Seconds) rows None) news
+makes Faults = λ rows. MakesFaults (Line Seconds) (manner_in (Line Seconds) (by_table rows) None) news
 makes (Series of) = MakesSeries of
 
 -- at which frames memory is wanted

@@ -2,6 +2,7 @@
 #![tactic(auto)]
 
 ghost use Rattle.std.specs.Prelude.{◌≡◌, ◌≢◌, ◌<◌, ◌≤◌, ◌↔◌, ◌⊎◌, ◌∷◌, [], None, ⊤, length, take};
+ghost use Rattle.j39_names.specs.Naming.{by_table};
 ghost use Rattle.j39_address.specs.Name.{fields_of};
 ghost use Rattle.j39_fault_reports.specs.FaultAsking.{AsksForFaults};
 ghost use Rattle.j39_fault_reports.specs.FaultRun.{MakesFaults};
@@ -153,7 +154,7 @@ pub extern "C" fn j39_faults(
 ) -> u32
     // What is written is the faults that are told in the log's frames. Memory is wanted at a frame that announces a
     // message, and at one at which an address says its codes for the first time.
-    ensures { Tells (ByTable table.now) (λ rows. MakesFaults (Line Seconds) (manner_in (Line Seconds) rows None) news)
+    ensures { Tells (ByTable table.now) (λ rows. MakesFaults (Line Seconds) (manner_in (Line Seconds) (by_table rows) None) news)
         (λ _. AsksSomewhere (AsksForFaults News no_filter) (given_bus bus.now) log.now)
         log.now bus.now table.now room.old room.new text.old text.new result }
 {
@@ -165,11 +166,11 @@ pub extern "C" fn j39_faults(
 #[unsafe(no_mangle)]
 pub extern "C" fn j39_nodes(log: &[u8], bus: &[u8], room: &mut [u8], text: &mut LogText) -> u32
     // What stands at the front of the room is who holds an address after the log's frames, and nothing else.
-    ensures nodes { result ≡ done → IsMade (MakesSeenNodes (record { form = Line Seconds; silence = long_silence; from = None })) (given_bus bus.now) log.now text.new room.new }
+    ensures nodes { result ≡ done → IsMade (MakesSeenNodes (record { own = []; form = Line Seconds; silence = long_silence; from = None })) (given_bus bus.now) log.now text.new room.new }
 
     // The room is too small exactly where that text has as many bytes, or more.
     ensures fits { result ≡ done → text.new.bytes < length room.new }
-    ensures too_small { result ≡ too_small → Overflows (MakesSeenNodes (record { form = Line Seconds; silence = long_silence; from = None })) (given_bus bus.now) log.now room.new }
+    ensures too_small { result ≡ too_small → Overflows (MakesSeenNodes (record { own = []; form = Line Seconds; silence = long_silence; from = None })) (given_bus bus.now) log.now room.new }
 
     ensures bus { (result ≡ wrong_bus) ↔ IsWrongBus bus.now }
     ensures answers { result ≤ wrong_bus }
@@ -197,12 +198,12 @@ pub extern "C" fn j39_survey(
 ) -> u32
     // What stands at the front of the room is the survey of the log's lines, and nothing else.
     ensures survey { result ≡ done → ByTable table.now
-        (λ rows. IsSurveyed (record { form = Line Seconds; table = rows; given = given_bus bus.now }) log.now text.new room.new) }
+        (λ rows. IsSurveyed (record { form = Line Seconds; naming = by_table rows; given = given_bus bus.now }) log.now text.new room.new) }
 
     // The room is too small exactly where the survey has as many bytes, or more.
     ensures fits { result ≡ done → text.new.bytes < length room.new }
     ensures too_small { result ≡ too_small → ByTable table.now
-        (λ rows. SurveyOverflows (record { form = Line Seconds; table = rows; given = given_bus bus.now }) log.now room.new) }
+        (λ rows. SurveyOverflows (record { form = Line Seconds; naming = by_table rows; given = given_bus bus.now }) log.now room.new) }
 
     ensures memory { result ≡ no_memory → WantsRows table.now ⊎ ByTable table.now (λ _. ⊤) }
     ensures bus { (result ≡ wrong_bus) ↔ IsWrongBus bus.now }

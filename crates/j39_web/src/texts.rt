@@ -1,5 +1,6 @@
 //! What is made of a log, in the room of a page.
-ghost use Rattle.std.specs.Prelude.{◌≡◌, ◌≢◌, ◌<◌, length, take, IfErr, IfOk, None, OnErr, OnOk, Ok, Err};
+ghost use Rattle.std.specs.Prelude.{◌≡◌, ◌≢◌, ◌<◌, [], length, take, IfErr, IfOk, None, OnErr, OnOk, Ok, Err};
+ghost use Rattle.j39_names.specs.Naming.{by_table};
 ghost use Rattle.j39_groups.specs.Printed.{rows_text};
 ghost use Rattle.j39_survey.specs.SeenNodes.{MakesSeenNodes, long_silence};
 ghost use Rattle.j39_listen.specs.declared.format.Clock.TheVariants.{Seconds};
@@ -18,6 +19,7 @@ use j39_groups::Groups;
 use j39_io::{DeviceFault, put_all};
 use j39_listen::{Clock, Counts, Format, RunFault};
 use j39_log::Bus;
+use j39_names::Naming;
 use j39_table::TableFault;
 use std::alloc::{AllocError, Global};
 
@@ -98,15 +100,16 @@ pub fn values(
 
 /// Writes who holds which address at the end of a log.
 pub fn nodes(log: &[u8], bus: Option<Bus>, room: &mut [u8]) -> Result<LogText, Refusal>
-    ensures nodes { IfOk result (λ text. IsMade (MakesSeenNodes (record { form = Line Seconds; silence = long_silence; from = None })) bus log.now text room.new) }
+    ensures nodes { IfOk result (λ text. IsMade (MakesSeenNodes (record { own = []; form = Line Seconds; silence = long_silence; from = None })) bus log.now text room.new) }
     ensures fits { IfOk result (λ text. text.bytes < length room.new) }
-    ensures too_small { result ≡ Err TooSmall → Overflows (MakesSeenNodes (record { form = Line Seconds; silence = long_silence; from = None })) bus log.now room.new }
+    ensures too_small { result ≡ Err TooSmall → Overflows (MakesSeenNodes (record { own = []; form = Line Seconds; silence = long_silence; from = None })) bus log.now room.new }
     ensures memory { result ≢ Err Memory }
 {
     let mut source = LogBytes::new(log);
     let mut sink = Room::new(room);
     let limit = log.len() as u64;
     let asked = j39_survey::SeenAsked {
+        own: &[],
         format: Format::Line(Clock::Seconds),
         silence: j39_survey::LONG_SILENCE,
         from: None,
@@ -147,18 +150,19 @@ pub fn survey(
     groups: &Groups<'_>,
     room: &mut [u8],
 ) -> Result<LogText, Refusal>
-    ensures survey { IfOk result (λ text. IsSurveyed (record { form = Line Seconds; table = groups.now; given = bus }) log.now text room.new) }
+    ensures survey { IfOk result (λ text. IsSurveyed (record { form = Line Seconds; naming = by_table groups.now; given = bus }) log.now text room.new) }
     ensures fits { IfOk result (λ text. text.bytes < length room.new) }
-    ensures too_small { result ≡ Err TooSmall → SurveyOverflows (record { form = Line Seconds; table = groups.now; given = bus }) log.now room.new }
+    ensures too_small { result ≡ Err TooSmall → SurveyOverflows (record { form = Line Seconds; naming = by_table groups.now; given = bus }) log.now room.new }
     ensures counts { IfOk result (λ text. counts_in text ≡ no_counts) }
 {
     let mut source = LogBytes::new(log);
     let mut sink = Room::new(room);
     let limit = log.len() as u64;
+    let naming = Naming::by_table(groups);
     let ran = j39_survey::survey(
         alloc,
         Format::Line(Clock::Seconds),
-        groups,
+        &naming,
         &mut source,
         &mut sink,
         bus,

@@ -12,6 +12,7 @@ use j39_groups::Groups;
 use j39_io::{Sink, Source};
 use j39_listen::{Clock, Counts, Format, RunFault, run_with};
 use j39_log::Bus;
+use j39_names::Naming;
 use j39_reports::{report_csv, summary};
 use std::alloc::Global;
 
@@ -64,8 +65,9 @@ impl Writing {
                     filter: None,
                     spns: None,
                 };
+                let naming = Naming::by_table(groups);
                 let format = Format::Line(Clock::Seconds);
-                counts_of(faults(alloc, groups, format, choice, source, sink, bus, limit))
+                counts_of(faults(alloc, &naming, format, choice, source, sink, bus, limit))
             }
             Writing::Series(of) => series(alloc, groups, of, source, sink, bus, limit),
         }

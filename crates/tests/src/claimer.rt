@@ -1,7 +1,7 @@
 //! When a node holds the address that it claims, and when it loses it.
+use crate::steps::{frame, is_line};
 use j39_address::{Claimer, Name, Status};
-use j39_frame::{Frame, Stamp};
-use j39_log::{Bus, Line, line_of, read_line};
+use j39_frame::Stamp;
 use std::test::Fail;
 
 const NAME: u64 = 0x8000000001401234;
@@ -110,22 +110,6 @@ static NODES: &[(&str, u64, &[Step])] = &[
         ],
     ),
 ];
-
-fn frame(line: &str) -> Option<Frame> {
-    match read_line(line.as_bytes()) {
-        Line::Frame { frame, .. } => Some(frame),
-        _ => None,
-    }
-}
-
-/// Whether what is sent is the frame of this line, or nothing where there is no line.
-fn is_line(sent: Option<Frame>, wanted: Option<&str>) -> Option<bool> {
-    let bus = Bus::new(b"can0")?;
-    Some(match (sent, wanted) {
-        (Some(frame), Some(line)) => line_of(&frame, &bus).as_slice() == line.as_bytes(),
-        (sent, wanted) => sent.is_none() && wanted.is_none(),
-    })
-}
 
 /// Whether the node does as the step says; `None` where the step isn't one.
 fn does(node: &mut Claimer, raw: u64, step: &Step) -> Option<bool> {

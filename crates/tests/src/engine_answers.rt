@@ -1,6 +1,6 @@
 //! The engine of `engine` at work: it claims, sends its speed, hears another's, answers two requests and refuses two.
 use crate::engine::{Engine, turn};
-use crate::node::{frame, is_line};
+use crate::steps::{frame, is_line};
 use j39_address::Name;
 use j39_frame::{Pgn, Stamp};
 use std::test::Fail;

@@ -15,7 +15,7 @@ ghost use Rattle.j39_transport.specs.Sending.{SendStep, Tick};
 ghost use Rattle.j39_transport.specs.Stands.{Stands};
 
 use j39_address::{Claims, Name};
-use j39_faults::{State, codes_of, fault_group, lamps_of, put_code};
+use j39_faults::{codes_of, fault_group, fmi_words, parameter_words};
 use j39_frame::{Frame, Id, Pgn, Stamp};
 use j39_groups::{Field, Groups, Row, Value, is_heard_group, is_network_group, raw_of, readings};
 use j39_io::{DeviceFault, Sink, put_all};
@@ -71,11 +71,13 @@ pub fn is_clear(payload: &[u8]) -> bool
     codes_of(payload).next().is_none()
 }
 
-/// Writes a line for each code that a message tells.
+/// Writes a line for each code that a message tells: its parameter, and what is wrong.
 pub fn put_faults<W: Sink>(pgn: Pgn, payload: &[u8], sink: &mut W) -> Result<(), DeviceFault> {
-    if let (Some(kind), Some(lamps)) = (fault_group(pgn), lamps_of(payload)) {
+    if fault_group(pgn).is_some() {
         for code in codes_of(payload) {
-            put_code(State::Is(kind), lamps, None, code, sink)?;
+            put_all(sink, parameter_words(code.parameter).as_slice())?;
+            put_all(sink, b": ")?;
+            put_all(sink, fmi_words(code.fmi).as_bytes())?;
             put_all(sink, b"\n")?;
         }
     }

@@ -8,10 +8,12 @@ mod assemblers;
 mod broadcasts;
 #[cfg(test)]
 mod claimer;
-pub mod engine;
+#[cfg(test)]
+mod engine;
 #[cfg(test)]
 mod engine_answers;
-pub mod examples;
+#[cfg(test)]
+mod examples;
 #[cfg(test)]
 mod fault_messages;
 #[cfg(test)]
@@ -42,11 +44,14 @@ mod node_transfers;
 mod quick_lines;
 #[cfg(test)]
 mod raw_values;
-pub mod setup;
+#[cfg(test)]
+mod setup;
 #[cfg(test)]
 mod several_sessions;
 #[cfg(test)]
 mod sizes;
+#[cfg(test)]
+mod steps;
 #[cfg(test)]
 mod told;
 #[cfg(test)]

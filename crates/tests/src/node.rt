@@ -1,51 +1,15 @@
-//! A controller: what it answers, call by call; frames as the lines that a standard's reader would write.
-use crate::setup::setup;
-use j39_address::{Name, Status};
-use j39_frame::{Frame, Pgn, Stamp};
-use j39_log::{Bus, Line, line_of, read_line};
-use j39_node::{Answer, Controller, Ending, News, Refused};
-use j39_transport::{Assembler, Fed};
-use std::test::Fail;
-
-/// What is done with a controller, and what it answers.
-enum Step {
-    /// It hears the frame of this line.
-    Hears(&'static str),
-    /// At this moment it gives the frame of this line, or none.
-    Gives(u64, Option<&'static str>),
-    /// At this moment it takes group 65265 with these bytes, priority 6, to this address: its token, or why not.
-    Sends(u64, u8, &'static [u8], Result<u64, Refused>),
-    /// At this moment it takes group 65226 with these bytes to be broadcast: its token, or why not.
-    Broadcasts(u64, &'static [u8], Result<u64, Refused>),
-    /// It tells this end of a broadcast.
-    EndsBroadcast(Option<(u64, Ending)>),
-    /// At this moment it would give the frame of this line, or none.
-    WouldGive(u64, Option<&'static str>),
-    /// It tells this.
-    Tells(Option<News>),
-    /// It tells this end.
-    Ends(Option<(u64, Ending)>),
-    /// It hands out a message of this source, priority, group and bytes.
-    HandsOut(u8, u8, u32, &'static [u8]),
-    HandsOutNone,
-    /// It hands out a request of this source for this group, which is acknowledged at this moment, so: whether it takes it.
-    IsAsked(u8, u32, u64, Answer, bool),
-    IsAskedNothing,
-    /// It is so far with its address.
-    Is(Status),
-    /// Its next frame is due at this moment.
-    IsDue(Option<u64>),
-    /// This address is held by this NAME.
-    Holder(u8, Option<u64>),
-    /// So many messages were missed.
-    Missed(u64),
-}
-
+//! A controller: what it answers, call by call.
+use crate::steps::{Step, controller, wrong_step};
 use Status::{Cannot, Claiming, Holding, Idle};
 use Step::{
     Broadcasts, Ends, EndsBroadcast, Gives, HandsOut, HandsOutNone, Hears, Holder, Is, IsAsked,
     IsAskedNothing, IsDue, Missed, Sends, Tells, WouldGive,
 };
+use j39_address::Status;
+use j39_frame::{Pgn, Stamp};
+use j39_node::{Answer, Controller, Ending, News, Refused};
+use j39_transport::{Assembler, Fed};
+use std::test::Fail;
 
 /// NAME 2 at address 128, whose program serves group 65259.
 static STEPS: &[Step] = &[
@@ -263,99 +227,13 @@ static FLOOD: &[Step] = &[
     Gives(250_009, None),
 ];
 
-pub(crate) fn frame(line: &str) -> Option<Frame> {
-    match read_line(line.as_bytes()) {
-        Line::Frame { frame, .. } => Some(frame),
-        _ => None,
-    }
-}
-
-/// Shows the controller the frame of this line, at its stamp.
-pub(crate) fn hear_line(node: &mut Controller, line: &str) -> Option<()> {
-    let heard = frame(line)?;
-    node.hear(&heard, heard.stamp);
-    Some(())
-}
-
-/// Whether what is given is the frame of this line, or nothing where there is no line.
-pub(crate) fn is_line(given: Option<Frame>, wanted: Option<&str>) -> Option<bool> {
-    let bus = Bus::new(b"can0")?;
-    Some(match (given, wanted) {
-        (Some(frame), Some(line)) => line_of(&frame, &bus).as_slice() == line.as_bytes(),
-        (given, wanted) => given.is_none() && wanted.is_none(),
-    })
-}
-
-/// Whether the controller does as the step says; `None` where the step isn't one.
-fn does(node: &mut Controller, step: &Step) -> Option<bool> {
-    match step {
-        Hears(line) => {
-            hear_line(node, line)?;
-            Some(true)
-        }
-        Gives(micros, wanted) => is_line(node.take_frame(Stamp::new(*micros)?), *wanted),
-        WouldGive(micros, wanted) => is_line(node.peek_frame(Stamp::new(*micros)?), *wanted),
-        Tells(wanted) => Some(node.take_news() == *wanted),
-        Sends(micros, to, bytes, wanted) => {
-            let group = Pgn::new(65_265)?;
-            let answer = if *to == 255 {
-                node.send(Stamp::new(*micros)?, 6, group, *to, bytes)
-            } else {
-                node.send(Stamp::new(*micros)?, 6, Pgn::new(0)?, *to, bytes)
-            };
-            Some(answer == *wanted)
-        }
-        Ends(wanted) => Some(node.take_ended() == *wanted),
-        Broadcasts(micros, bytes, wanted) => {
-            let answer = node.broadcast(Stamp::new(*micros)?, Pgn::new(65_226)?, bytes);
-            Some(answer == *wanted)
-        }
-        EndsBroadcast(wanted) => Some(node.take_broadcast_ended() == *wanted),
-        HandsOut(source, priority, group, bytes) => {
-            let message = node.take_received()?;
-            Some(
-                message.source == *source
-                    && message.priority == *priority
-                    && message.group.raw() == *group
-                    && message.bytes.as_slice() == *bytes,
-            )
-        }
-        HandsOutNone => Some(node.take_received().is_none()),
-        IsAsked(source, group, micros, answer, taken) => {
-            let request = node.take_request()?;
-            let is_it = request.source == *source && request.group.raw() == *group;
-            let is_taken = node
-                .acknowledge(Stamp::new(*micros)?, request, *answer)
-                .is_ok();
-            Some(is_it && is_taken == *taken)
-        }
-        IsAskedNothing => Some(node.take_request().is_none()),
-        Is(status) => Some(node.status() == *status),
-        IsDue(wanted) => Some(node.next_due().map(Stamp::micros) == *wanted),
-        Holder(address, wanted) => Some(node.holder(*address).map(Name::raw) == *wanted),
-        Missed(wanted) => Some(node.missed() == *wanted),
-    }
-}
-
-/// The place of the first step that the controller doesn't take as it says.
-fn wrong_step(node: &mut Controller, steps: &[Step]) -> Option<usize> {
-    for (place, step) in steps.iter().enumerate() {
-        if does(node, step) != Some(true) {
-            return Some(place);
-        }
-    }
-    None
-}
-
 #[test]
 fn node(rt: HostRuntime) -> Result<(), Fail> {
     let served = [Pgn::new(65_259).ok_or("group")?];
-    let mut node = Controller::new(rt.alloc(), &setup(2, 128, &served))?.ok_or("node")?;
-    assert_eq!(rt; wrong_step(&mut node, STEPS), None);
-    let mut deaf = Controller::new(rt.alloc(), &setup(2, 128, &served))?.ok_or("node")?;
-    assert_eq!(rt; wrong_step(&mut deaf, UNREAD), None);
-    let mut asked = Controller::new(rt.alloc(), &setup(2, 128, &served))?.ok_or("node")?;
-    assert_eq!(rt; wrong_step(&mut asked, FLOOD), None);
+    for steps in [STEPS, UNREAD, FLOOD] {
+        let mut node = controller(rt.alloc(), &served)?;
+        assert_eq!(rt; wrong_step(&mut node, steps), None);
+    }
     Ok(())
 }
 
@@ -389,7 +267,7 @@ fn put_together(
 
 #[test]
 fn broadcasts_of_a_node(rt: HostRuntime) -> Result<(), Fail> {
-    let mut node = Controller::new(rt.alloc(), &setup(2, 128, &[]))?.ok_or("node")?;
+    let mut node = controller(rt.alloc(), &[])?;
     let mut assembler = Assembler::new(rt.alloc());
     let _claim = node.take_frame(Stamp::new(0).ok_or("moment")?);
     let bytes: [u8; 1_785] = std::array::from_fn(|place| (place % 251) as u8);

@@ -1,5 +1,6 @@
 //! A controller among senders of DM1, each of three packets in each second, at any phase: with as many boxes as senders it receives all.
 use crate::setup::setup;
+use crate::steps::{controller, made};
 use j39_frame::{Frame, GLOBAL_ADDRESS, Id, Pgn, Stamp};
 use j39_node::{Controller, News, Setup};
 use std::alloc::Global;
@@ -81,7 +82,7 @@ fn heard_of(alloc: Global, senders: u8, seed: u64) -> Result<(u64, u64), Fail> {
         broadcasts: senders,
         ..setup(2, 128, &[])
     };
-    let mut node = Controller::new(alloc, &wanted)?.ok_or("node")?;
+    let mut node = made(alloc, &wanted)?;
     let got = received(&mut node, seed, senders).ok_or("a step")?;
     Ok((got, node.missed()))
 }
@@ -100,7 +101,7 @@ fn all_are_received(rt: HostRuntime) -> Result<(), Fail> {
 
 #[test]
 fn two_in_step_need_two_boxes(rt: HostRuntime) -> Result<(), Fail> {
-    let mut node = Controller::new(rt.alloc(), &setup(2, 128, &[]))?.ok_or("node")?;
+    let mut node = controller(rt.alloc(), &[])?;
     for second in 0..SECONDS {
         for k in 0..4u8 {
             let at = second
@@ -126,7 +127,7 @@ fn none_is_heard_without_a_box(rt: HostRuntime) -> Result<(), Fail> {
         broadcasts: 0,
         ..setup(2, 128, &[])
     };
-    let mut node = Controller::new(rt.alloc(), &wanted)?.ok_or("node")?;
+    let mut node = made(rt.alloc(), &wanted)?;
     let got = received(&mut node, 0, 1).ok_or("a step")?;
     assert_eq!(rt; got, 0);
     assert_eq!(rt; node.missed(), SECONDS);

@@ -1,7 +1,8 @@
 //! A controller's time is that of its calls: woken each so many milliseconds, it hears frames whose stamps are older, and holds its
 //! address and spaces its packets all the same. Two that hold one address, since a claim was missed, don't both keep it.
 use crate::setup::setup;
-use j39_address::{Name, Status};
+use crate::steps::{controller, made};
+use j39_address::Status;
 use j39_frame::{Frame, GLOBAL_ADDRESS, Id, Pgn, Stamp};
 use j39_node::{Controller, News};
 use std::alloc::Global;
@@ -72,7 +73,7 @@ fn wake(node: &mut Controller, seen: &mut Seen, now: u64, period: u64) -> Option
 
 /// What is seen of a controller that is woken 60 times so.
 fn driven(alloc: Global, period: u64) -> Result<Seen, Fail> {
-    let mut node = Controller::new(alloc, &setup(2, OWN, &[]))?.ok_or("controller")?;
+    let mut node = controller(alloc, &[])?;
     let mut seen = Seen {
         claimed: None,
         held: None,
@@ -108,7 +109,7 @@ fn stamps_are_no_moments(rt: HostRuntime) -> Result<(), Fail> {
 
 /// Holds the address, since it heard no claim of another.
 fn holding(alloc: Global, name: u64) -> Result<Controller, Fail> {
-    let mut node = Controller::new(alloc, &setup(name, OWN, &[]))?.ok_or("controller")?;
+    let mut node = made(alloc, &setup(name, OWN, &[]))?;
     node.take_frame(Stamp::new(0).ok_or("moment")?);
     node.tick(Stamp::new(250_000).ok_or("moment")?);
     Ok(node)

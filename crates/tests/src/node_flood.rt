@@ -1,8 +1,7 @@
 //! A controller whose driver takes one frame in each 10 ms, while strangers ask for its claim and announce transfers to it before
 //! each, and its program hands in messages as long as there is room: frames of its broadcast go in time, and messages and replies go.
 //! Where no messages wait, a transfer goes. Requests that are repeated keep nobody else's out.
-use crate::setup::setup;
-use j39_address::Name;
+use crate::steps::controller;
 use j39_frame::{Frame, GLOBAL_ADDRESS, Id, Pgn, Stamp};
 use j39_node::{Controller, Ending, TransferEnding};
 use std::alloc::Global;
@@ -102,7 +101,7 @@ fn driven(node: &mut Controller) -> Option<Taken> {
 
 #[test]
 fn none_starves_in_a_flood(rt: HostRuntime) -> Result<(), Fail> {
-    let mut node = Controller::new(rt.alloc(), &setup(2, OWN, &[]))?.ok_or("controller")?;
+    let mut node = controller(rt.alloc(), &[])?;
     let taken = driven(&mut node).ok_or("a step")?;
     assert!(rt; taken.ended && taken.packets == 10);
     assert!(rt; taken.longest <= MOST);
@@ -152,7 +151,7 @@ fn transferred(node: &mut Controller) -> Option<u32> {
 
 #[test]
 fn a_transfer_goes_in_a_flood(rt: HostRuntime) -> Result<(), Fail> {
-    let mut node = Controller::new(rt.alloc(), &setup(2, OWN, &[]))?.ok_or("controller")?;
+    let mut node = controller(rt.alloc(), &[])?;
     let frames = transferred(&mut node).ok_or("it doesn't end")?;
     assert!(rt; frames <= 24);
     Ok(())
@@ -204,7 +203,7 @@ fn repeated(node: &mut Controller) -> Option<u32> {
 #[test]
 fn a_repeated_request_waits_once(rt: HostRuntime) -> Result<(), Fail> {
     let served = [Pgn::new(65_259).ok_or("group")?];
-    let mut node = Controller::new(rt.alloc(), &setup(2, OWN, &served))?.ok_or("controller")?;
+    let mut node = controller(rt.alloc(), &served)?;
     assert!(rt; repeated(&mut node) == Some(1));
     let sources = [
         0x30, 0x31, 0x32, 0x33, 0x34, 0x35, 0x36, 0x37, 0x38, 0x39, 0x3A, 0x3B, 0x3C, 0x3D, 0x3E,

@@ -1,7 +1,5 @@
 //! A source that holds the only session, or the only broadcast, for messages in packets: when another gets in; and one that restarts.
-use crate::node::{frame, hear_line};
-use crate::setup::setup;
-use j39_address::Name;
+use crate::steps::{controller, frame, hear_line};
 use j39_frame::Stamp;
 use j39_node::Controller;
 use std::alloc::Global;
@@ -52,7 +50,7 @@ fn let_in_after(node: &mut Controller, again: &str, every: u64) -> Option<u64> {
 
 #[test]
 fn node_lets_another_in_beside_one_that_begins_again(rt: HostRuntime) -> Result<(), Fail> {
-    let mut node = Controller::new(rt.alloc(), &setup(2, 128, &[]))?.ok_or("node")?;
+    let mut node = controller(rt.alloc(), &[])?;
     assert_eq!(rt; let_in_after(&mut node, FIRST, 3_000), Some(8_500));
     Ok(())
 }
@@ -61,7 +59,7 @@ fn node_lets_another_in_beside_one_that_begins_again(rt: HostRuntime) -> Result<
 fn node_lets_another_in_beside_one_whose_packets_are_never_next(
     rt: HostRuntime,
 ) -> Result<(), Fail> {
-    let mut node = Controller::new(rt.alloc(), &setup(2, 128, &[]))?.ok_or("node")?;
+    let mut node = controller(rt.alloc(), &[])?;
     assert_eq!(rt; let_in_after(&mut node, PACKET, 700), Some(4_500));
     Ok(())
 }
@@ -100,7 +98,7 @@ fn received_beside(node: &mut Controller, seconds: u64) -> Option<u64> {
 
 #[test]
 fn node_hears_another_beside_one_that_announces_anew(rt: HostRuntime) -> Result<(), Fail> {
-    let mut node = Controller::new(rt.alloc(), &setup(2, 128, &[]))?.ok_or("node")?;
+    let mut node = controller(rt.alloc(), &[])?;
     assert_eq!(rt; received_beside(&mut node, 300), Some(43));
     Ok(())
 }
@@ -157,27 +155,30 @@ fn receives(node: &mut Controller, between: &[&str]) -> Option<(bool, bool)> {
 
 /// The same of a new controller.
 fn received(alloc: Global, between: &[&str]) -> Result<Option<(bool, bool)>, Fail> {
-    let mut node = Controller::new(alloc, &setup(2, 128, &[]))?.ok_or("node")?;
+    let mut node = controller(alloc, &[])?;
     Ok(receives(&mut node, between))
 }
 
+/// What comes before the last packets, and whether both messages are received.
+static RESTARTS: &[(&[&str], bool)] = &[
+    (&[], true),
+    (&[CLAIM], false),
+    (&[REQUEST, CLAIM], true),
+    (&[RIVAL, CLAIM], true),
+    (&[TO_IT, CLAIM], true),
+    (&[ASIDE, CLAIM], false),
+    (&[OTHERS, CLAIM], false),
+    (&[ASIDE, TO_IT, CLAIM], true),
+];
+
 #[test]
 fn node_meets_a_restart(rt: HostRuntime) -> Result<(), Fail> {
-    let with_nothing = received(rt.alloc(), &[])?;
-    let with_a_claim = received(rt.alloc(), &[CLAIM])?;
-    let when_asked = received(rt.alloc(), &[REQUEST, CLAIM])?;
-    let beside_a_rival = received(rt.alloc(), &[RIVAL, CLAIM])?;
-    let when_it_is_asked = received(rt.alloc(), &[TO_IT, CLAIM])?;
-    let when_another_is = received(rt.alloc(), &[ASIDE, CLAIM])?;
-    let beside_another = received(rt.alloc(), &[OTHERS, CLAIM])?;
-    let when_both_are = received(rt.alloc(), &[ASIDE, TO_IT, CLAIM])?;
-    assert_eq!(rt; with_nothing, Some((true, true)));
-    assert_eq!(rt; with_a_claim, Some((false, false)));
-    assert_eq!(rt; when_asked, Some((true, true)));
-    assert_eq!(rt; beside_a_rival, Some((true, true)));
-    assert_eq!(rt; when_it_is_asked, Some((true, true)));
-    assert_eq!(rt; when_another_is, Some((false, false)));
-    assert_eq!(rt; beside_another, Some((false, false)));
-    assert_eq!(rt; when_both_are, Some((true, true)));
+    for (place, (between, comes)) in RESTARTS.iter().enumerate() {
+        assert_eq!(rt;
+            received(rt.alloc(), between)?,
+            Some((*comes, *comes)),
+            "{place}"
+        );
+    }
     Ok(())
 }

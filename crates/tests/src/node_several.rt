@@ -1,5 +1,6 @@
 //! Messages in packets to a controller from several sources at once: as many as it has boxes, so many packets granted at once.
 use crate::setup::setup;
+use crate::steps::made;
 use j39_frame::{Frame, Id, Pgn, Stamp};
 use j39_node::{Controller, Setup};
 use std::alloc::Global;
@@ -75,26 +76,31 @@ fn fates_in(alloc: Global, boxes: u8, sources: u8) -> Result<(u64, u64), Fail> {
         sessions: boxes,
         ..setup(2, 128, &[])
     };
-    let mut node = Controller::new(alloc, &wanted)?.ok_or("node")?;
+    let mut node = made(alloc, &wanted)?;
     let found = fates(&mut node, sources).ok_or("a step")?;
     Ok(found)
 }
 
+/// Boxes, sources, and what becomes of their messages.
+type Row = (u8, u8, (u64, u64));
+
+static ENOUGH: &[Row] = &[(10, 10, (0, 10)), (15, 15, (0, 15))];
+
+static TOO_FEW: &[Row] = &[(3, 10, (7, 3)), (0, 1, (1, 0))];
+
 #[test]
 fn node_receives_as_many_at_once_as_it_has_boxes(rt: HostRuntime) -> Result<(), Fail> {
-    let ten = fates_in(rt.alloc(), 10, 10)?;
-    let fifteen = fates_in(rt.alloc(), 15, 15)?;
-    assert_eq!(rt; ten, (0, 10));
-    assert_eq!(rt; fifteen, (0, 15));
+    for (boxes, sources, fates) in ENOUGH {
+        assert_eq!(rt; fates_in(rt.alloc(), *boxes, *sources)?, *fates);
+    }
     Ok(())
 }
 
 #[test]
 fn node_refuses_who_finds_no_box(rt: HostRuntime) -> Result<(), Fail> {
-    let three = fates_in(rt.alloc(), 3, 10)?;
-    let none = fates_in(rt.alloc(), 0, 1)?;
-    assert_eq!(rt; three, (7, 3));
-    assert_eq!(rt; none, (1, 0));
+    for (boxes, sources, fates) in TOO_FEW {
+        assert_eq!(rt; fates_in(rt.alloc(), *boxes, *sources)?, *fates);
+    }
     Ok(())
 }
 
@@ -120,18 +126,18 @@ fn granted_in(alloc: Global, window: u8, most: u8) -> Result<(u64, u64), Fail> {
         window,
         ..setup(2, 128, &[])
     };
-    let mut node = Controller::new(alloc, &wanted)?.ok_or("node")?;
+    let mut node = made(alloc, &wanted)?;
     let found = granted(&mut node, most).ok_or("a step")?;
     Ok(found)
 }
 
+/// Windows, and how many packets are taken at once: the node's, what was asked, and the less of both.
+static WINDOWS: &[(u8, u8)] = &[(2, 255), (0, 2), (16, 2)];
+
 #[test]
 fn node_grants_at_most_its_window_and_what_is_asked(rt: HostRuntime) -> Result<(), Fail> {
-    let its_window = granted_in(rt.alloc(), 2, 255)?;
-    let as_asked = granted_in(rt.alloc(), 0, 2)?;
-    let the_least = granted_in(rt.alloc(), 16, 2)?;
-    assert_eq!(rt; its_window, (1, 1));
-    assert_eq!(rt; as_asked, (1, 1));
-    assert_eq!(rt; the_least, (1, 1));
+    for (window, most) in WINDOWS {
+        assert_eq!(rt; granted_in(rt.alloc(), *window, *most)?, (1, 1));
+    }
     Ok(())
 }

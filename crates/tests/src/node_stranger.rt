@@ -1,6 +1,6 @@
 //! A third that misbehaves, while two send one another messages in packets: frames of all kinds from an address that is neither's.
 use crate::setup::setup;
-use j39_address::Name;
+use crate::steps::{controller, made};
 use j39_frame::{Frame, Id, Pgn, Stamp};
 use j39_node::{Controller, TransferEnding};
 use rand_core::Rng;
@@ -62,8 +62,8 @@ fn noise(random: &mut Pcg32, now: Stamp) -> Option<Frame> {
 impl Pair {
     /// Both hold their addresses, and the broadcast and the first transfer are announced.
     fn new(alloc: Global) -> Result<Pair, Fail> {
-        let sender = Controller::new(alloc, &setup(2, SENDER, &[]))?.ok_or("sender")?;
-        let receiver = Controller::new(alloc, &setup(3, RECEIVER, &[]))?.ok_or("receiver")?;
+        let sender = controller(alloc, &[])?;
+        let receiver = made(alloc, &setup(3, RECEIVER, &[]))?;
         let mut pair = Pair {
             sender,
             receiver,

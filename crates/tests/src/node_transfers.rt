@@ -1,35 +1,12 @@
 //! Transfers of a controller to one address: from 80 to 0B, of the group 65226.
-use crate::node::{frame, hear_line, is_line};
-use crate::setup::setup;
-use j39_address::Name;
-use j39_frame::{Pgn, Stamp};
+use crate::steps::{Step, controller, wrong_step};
+use Step::{Broadcasts, EndsTransfer, Gives, Hears, HearsOften, IsDue, Moves, Transfers};
+use TransferEnding::{Done, Failed, Gone, Withdrawn};
+use j39_frame::{Frame, Pgn, Stamp};
 use j39_node::{Controller, Refused, TransferEnding};
 use j39_transport::{Receiver, Reply};
 use std::alloc::Global;
 use std::test::Fail;
-
-/// What is done with a controller, and what it answers.
-enum Step {
-    /// It hears the frame of this line.
-    Hears(&'static str),
-    /// So many times.
-    HearsOften(u8, &'static str),
-    /// At this moment it gives the frame of this line, or none.
-    Gives(u64, Option<&'static str>),
-    /// At this moment it takes these bytes to be sent to this address: its token, or why not.
-    Transfers(u64, u8, &'static [u8], Result<u64, Refused>),
-    /// It tells this end of a transfer.
-    Ends(Option<(u64, TransferEnding)>),
-    /// At this moment it takes nine bytes to be broadcast.
-    Broadcasts(u64),
-    /// Its next frame is due at this moment.
-    IsDue(Option<u64>),
-    /// It moves to this address.
-    Moves(u8),
-}
-
-use Step::{Broadcasts, Ends, Gives, Hears, HearsOften, IsDue, Moves, Transfers};
-use TransferEnding::{Done, Failed, Gone, Withdrawn};
 
 const MESSAGE: [u8; 18] = *b"1FUJA6CV12LK12345*";
 
@@ -59,13 +36,13 @@ static BEGINS: &[Step] = &[
     ),
     IsDue(Some(1_500_001)),
     Gives(1_000_000, None),
-    Ends(None),
+    EndsTransfer(None),
 ];
 
 /// Cleared for two packets, held, cleared for the third, and acknowledged; a broadcast goes beside, and before.
 static WINDOWS: &[Step] = &[
     Hears("(1.000000) can0 1CEC800B#110201FFFFCAFE00"),
-    Broadcasts(1_000_000),
+    Broadcasts(1_000_000, &[1, 2, 3, 4, 5, 6, 7, 8, 9], Ok(0)),
     IsDue(Some(1_000_000)),
     Gives(
         1_000_000,
@@ -96,17 +73,17 @@ static WINDOWS: &[Step] = &[
     Hears("(1.200000) can0 1CEC800C#110103FFFFCAFE00"),
     Hears("(1.200000) can0 1CEC800B#110103FFFFCBFE00"),
     Hears("(1.200000) can0 1CEC800B#13120003FFCAFE00"),
-    Ends(None),
+    EndsTransfer(None),
     Hears("(2.250000) can0 1CEC800B#110103FFFFCAFE00"),
     Gives(
         2_250_000,
         Some("(0000000002.250000) can0 1CEB0B80#033334352AFFFFFF"),
     ),
-    Ends(None),
+    EndsTransfer(None),
     Hears("(2.250001) can0 1CEC800B#13120003FFCAFE00"),
     IsDue(None),
-    Ends(Some((0, Done))),
-    Ends(None),
+    EndsTransfer(Some((0, Done))),
+    EndsTransfer(None),
     Transfers(2_250_001, 11, &MESSAGE, Ok(1)),
 ];
 
@@ -143,8 +120,8 @@ static ABORTED: &[Step] = &[
     Hears("(1.000000) can0 1CEC800B#FF01FFFFFFCAFE00"),
     IsDue(None),
     Transfers(1_000_000, 11, &MESSAGE, Err(Refused::Full)),
-    Ends(Some((0, Failed(1)))),
-    Ends(None),
+    EndsTransfer(Some((0, Failed(1)))),
+    EndsTransfer(None),
 ];
 
 /// Nobody answers; a clock that is set back is no time.
@@ -156,7 +133,7 @@ static ABSENT: &[Step] = &[
         1_000_001,
         Some("(0000000001.000001) can0 1CEC0B80#FF03FFFFFFCAFE00"),
     ),
-    Ends(Some((0, Failed(3)))),
+    EndsTransfer(Some((0, Failed(3)))),
 ];
 
 /// It holds again and again.
@@ -165,12 +142,12 @@ static HOLDS: &[Step] = &[
     IsDue(Some(2_050_001)),
     Hears("(1.100000) can0 1CEC800B#1100FFFFFFCAFE00"),
     IsDue(Some(1_100_000)),
-    Ends(None),
+    EndsTransfer(None),
     Gives(
         1_100_000,
         Some("(0000000001.100000) can0 1CEC0B80#FF05FFFFFFCAFE00"),
     ),
-    Ends(Some((0, Failed(5)))),
+    EndsTransfer(Some((0, Failed(5)))),
 ];
 
 /// The NAME of 0B says again who it is; then another takes the address.
@@ -183,7 +160,7 @@ static REPLACED: &[Step] = &[
     IsDue(None),
     Hears("(1.000002) can0 1CEC800B#110301FFFFCAFE00"),
     Gives(1_000_003, None),
-    Ends(Some((0, Gone))),
+    EndsTransfer(Some((0, Gone))),
 ];
 
 /// A smaller NAME takes the own address, and is acknowledged to by mistake.
@@ -203,43 +180,9 @@ static LOST: &[Step] = &[
     ),
     Hears("(1.000001) can0 18EEFF80#0100000000000000"),
     Hears("(1.000002) can0 1CEC800B#13120003FFCAFE00"),
-    Ends(Some((0, Withdrawn))),
+    EndsTransfer(Some((0, Withdrawn))),
     Transfers(1_000_003, 11, &MESSAGE, Err(Refused::NoAddress)),
 ];
-
-/// Whether the controller does as the step says; `None` where the step isn't one.
-fn does(node: &mut Controller, step: &Step) -> Option<bool> {
-    match step {
-        Hears(line) => {
-            hear_line(node, line)?;
-            Some(true)
-        }
-        HearsOften(times, line) => {
-            let heard = frame(line)?;
-            for _time in 0..*times {
-                node.hear(&heard, heard.stamp);
-            }
-            Some(true)
-        }
-        Gives(micros, wanted) => {
-            let would = node.peek_frame(Stamp::new(*micros)?);
-            let given = node.take_frame(Stamp::new(*micros)?);
-            Some(is_line(would, *wanted)? && is_line(given, *wanted)?)
-        }
-        Transfers(micros, to, bytes, wanted) => {
-            let answer = node.transfer(Stamp::new(*micros)?, Pgn::new(65_226)?, *to, bytes);
-            Some(answer == *wanted)
-        }
-        Ends(wanted) => Some(node.take_transfer_ended() == *wanted),
-        Broadcasts(micros) => {
-            let bytes = [1, 2, 3, 4, 5, 6, 7, 8, 9];
-            let answer = node.broadcast(Stamp::new(*micros)?, Pgn::new(65_226)?, &bytes);
-            Some(answer.is_ok())
-        }
-        IsDue(wanted) => Some(node.next_due().map(Stamp::micros) == *wanted),
-        Moves(address) => Some(node.move_to(*address)),
-    }
-}
 
 /// Nobody answers. It moves to its own address, and may not send to 0B again before four seconds are over.
 static MOVED: &[Step] = &[
@@ -247,7 +190,7 @@ static MOVED: &[Step] = &[
         1_500_001,
         Some("(0000000001.500001) can0 1CEC0B80#FF03FFFFFFCAFE00"),
     ),
-    Ends(Some((0, Failed(3)))),
+    EndsTransfer(Some((0, Failed(3)))),
     Moves(128),
     Gives(
         1_600_000,
@@ -263,35 +206,23 @@ static MOVED: &[Step] = &[
     Transfers(5_500_001, 11, &MESSAGE, Ok(0)),
 ];
 
-/// The place of the first step that the controller doesn't take as it says.
-fn wrong_step(node: &mut Controller, steps: &[Step]) -> Option<usize> {
-    for (place, step) in steps.iter().enumerate() {
-        if does(node, step) != Some(true) {
-            return Some(place);
-        }
-    }
-    None
-}
-
 /// The place of the first wrong step, after an address is held and a request to send was sent.
-fn wrong_after(alloc: Global, steps: &[Step]) -> Option<usize> {
-    let mut node = Controller::new(alloc, &setup(2, 128, &[])).ok()??;
-    match wrong_step(&mut node, BEGINS) {
+fn wrong_after(alloc: Global, steps: &[Step]) -> Result<Option<usize>, Fail> {
+    let mut node = controller(alloc, &[])?;
+    Ok(match wrong_step(&mut node, BEGINS) {
         Some(place) => Some(place.saturating_add(1_000)),
         None => wrong_step(&mut node, steps),
-    }
+    })
 }
 
 #[test]
-fn transfers_of_a_node(rt: HostRuntime) {
-    assert_eq!(rt; wrong_after(rt.alloc(), WINDOWS), None);
-    assert_eq!(rt; wrong_after(rt.alloc(), ANSWERS), None);
-    assert_eq!(rt; wrong_after(rt.alloc(), ABORTED), None);
-    assert_eq!(rt; wrong_after(rt.alloc(), ABSENT), None);
-    assert_eq!(rt; wrong_after(rt.alloc(), HOLDS), None);
-    assert_eq!(rt; wrong_after(rt.alloc(), REPLACED), None);
-    assert_eq!(rt; wrong_after(rt.alloc(), LOST), None);
-    assert_eq!(rt; wrong_after(rt.alloc(), MOVED), None);
+fn transfers_of_a_node(rt: HostRuntime) -> Result<(), Fail> {
+    for steps in [
+        WINDOWS, ANSWERS, ABORTED, ABSENT, HOLDS, REPLACED, LOST, MOVED,
+    ] {
+        assert_eq!(rt; wrong_after(rt.alloc(), steps)?, None);
+    }
+    Ok(())
 }
 
 /// How many bytes the receiver at 0B delivers, and how the transfer ended, where it hears each frame at once.
@@ -324,7 +255,7 @@ fn delivered(
 
 #[test]
 fn transfers_to_a_receiver(rt: HostRuntime) -> Result<(), Fail> {
-    let mut node = Controller::new(rt.alloc(), &setup(2, 128, &[]))?.ok_or("node")?;
+    let mut node = controller(rt.alloc(), &[])?;
     let _claim = node.take_frame(Stamp::new(0).ok_or("moment")?);
     let mut receiver = crate::transfers::receiver(rt.alloc()).ok_or("receiver")?;
     let bytes: [u8; 1_785] = std::array::from_fn(|place| (place % 251) as u8);

@@ -1,5 +1,5 @@
 //! Several sessions of packets to one address at once, in two boxes.
-use crate::node::frame;
+use crate::steps::frame;
 use j39_frame::Stamp;
 use j39_sessions::Sessions;
 use std::test::Fail;

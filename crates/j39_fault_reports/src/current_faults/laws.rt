@@ -17,7 +17,7 @@ ghost use Rattle.j39_fault_reports.specs.Spoken.{sent_before, spoken_in};
 ghost use Rattle.j39_fault_reports.specs.FaultRows.{said_columns};
 ghost use Rattle.j39_fault_reports.specs.FaultsNowRun.{MakesFaultsNowIn, now_columns, now_head};
 ghost use Rattle.j39_rows.specs.Row.{names_text};
-ghost use Rattle.j39_groups.specs.Row.{RowRecord};
+ghost use Rattle.j39_names.specs.Naming.{NamingRecord};
 ghost use Rattle.j39_faults.specs.declared.kind.Kind.TheVariants.{Active};
 ghost use Rattle.j39_faults.specs.declared.text.State.TheVariants.{Is};
 
@@ -46,6 +46,6 @@ pub fn filters()
 
 /// The names above the records are those of each row's columns.
 pub fn names()
-    ensures { (rows : List RowRecord) (till : Option ℕ) (n : Now)
-        → names_text (now_head till n) (said_columns rows (Is Active) n.lamps n.code) ≡ now_columns }
+    ensures { (naming : NamingRecord) (till : Option ℕ) (n : Now)
+        → names_text (now_head till n) (said_columns naming (Is Active) n.lamps n.code) ≡ now_columns }
 {}

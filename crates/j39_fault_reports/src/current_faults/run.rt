@@ -1,6 +1,7 @@
 //! The run that tells which faults are there at the end of a log.
 ghost use Rattle.std.specs.Prelude.{◌≡◌};
 ghost use Rattle.j39_io.specs.Turn.{turn};
+ghost use Rattle.j39_names.specs.Naming.{naming_of};
 ghost use Rattle.j39_listen.specs.Chooses.{which_of};
 ghost use Rattle.j39_listen.specs.Headed.{begins_flushed};
 ghost use Rattle.j39_listen.specs.Ran.{PassesOn};
@@ -13,10 +14,10 @@ use crate::current_faults::account::FaultsNow;
 use crate::fault_news::form::Writing;
 use crate::fault_news::run::{FaultCounts, counted};
 use j39_faults::Conversion;
-use j39_groups::Groups;
 use j39_io::{Sink, Source};
 use j39_listen::{Filter, Format, RunFault, run_headed_keeping, run_keeping};
 use j39_log::Bus;
+use j39_names::Naming;
 use std::alloc::Global;
 
 /// The names of the columns of records.
@@ -31,7 +32,7 @@ const COLUMNS: &[u8] =
 /// first frame in the log.
 pub fn faults_now<R: Source, W: Sink>(
     alloc: Global,
-    groups: &Groups<'_>,
+    naming: &Naming<'_, '_>,
     format: Format,
     conversions: &[Conversion],
     filter: Option<Filter<'_>>,
@@ -44,14 +45,14 @@ pub fn faults_now<R: Source, W: Sink>(
     // What the run promises is `Ran`: what is written is what the filter takes of the faults that are there at the end of the
     // log, and nothing else. Memory is wanted only at a frame of the log that announces a message, or at the first message of active codes
     // of its address between the moments. And it counts which messages of codes were broken.
-    ensures told { ToldFaults (MakesFaultsNow format (manner_in format groups.now (spns_now spns.entry)) conversions.now (which_of filter.entry)) (AsksForFaultsNow (which_of filter.entry)) bus limit result
+    ensures told { ToldFaults (MakesFaultsNow format (manner_in format (naming_of naming.now) (spns_now spns.entry)) conversions.now (which_of filter.entry)) (AsksForFaultsNow (which_of filter.entry)) bus limit result
         (turn R.remaining R.has_failed source.old source.new) (turn W.written W.has_failed sink.old sink.new) }
 
     // What was written is passed on at the end, and before each read, the names of the columns before the first.
     ensures flushed { PassesOn result (begins_flushed format (W.is_flushed sink.old)) (W.is_flushed sink.new) }
 {
     let form = format;
-    let account = FaultsNow::new(alloc, Writing { form, groups, spns }, conversions, filter);
+    let account = FaultsNow::new(alloc, Writing { form, naming, spns }, conversions, filter);
     match format {
         Format::Line(_) => {
             let (ran, account) = run_keeping(account, source, sink, bus, limit);

@@ -4,14 +4,14 @@ ghost use Rattle.j39_fault_reports.specs.Faults.{has_lights, is_number_of, is_pa
 ghost use Rattle.j39_fault_reports.specs.FaultsSoFar.{manner_of, spns_now};
 
 use j39_faults::{Code, Lamps, Parameter, State};
-use j39_groups::Groups;
 use j39_listen::Format;
+use j39_names::Naming;
 
-/// In which form, by which table of parameters, and of which parameters alone, where some are asked for.
+/// In which form, by which names, and of which parameters alone, where some are asked for.
 #[derive(Clone, Copy)]
 pub(crate) struct Writing<'g, 't> {
     pub form: Format,
-    pub groups: &'g Groups<'t>,
+    pub naming: &'g Naming<'g, 't>,
     pub spns: Option<&'g [u32]>,
 }
 

@@ -13,11 +13,11 @@ ghost use Rattle.j39_fault_reports.specs.declared.fault_news.telling.Telling.{Te
 ghost use Rattle.j39_fault_reports.specs.FaultRows.{columns_with, message_head, saying_columns, saying_name};
 ghost use Rattle.j39_fault_reports.specs.FaultRun.{MakesFaultsIn};
 ghost use Rattle.j39_rows.specs.Row.{names_text};
-ghost use Rattle.j39_groups.specs.Row.{RowRecord};
+ghost use Rattle.j39_names.specs.Naming.{NamingRecord};
 ghost use Rattle.j39_listen.specs.declared.format.Format.{Format};
 ghost use Rattle.j39_fault_reports.specs.News.{Chosen, is_fault_group};
 
-/// Of each list of frames one text of faults is made by each table, in each form, with its numbers, and no other.
+/// Of each list of frames one text of faults is made by whatever names, in each form, with its numbers, and no other.
 pub fn one_text()
     ensures some { (form : Format) (manner : Manner) (which : Chosen) (bus : List ℕ) (F : List FrameRecord)
         → (output : Output) × MakesFaultsIn form manner which bus F output }
@@ -41,7 +41,7 @@ pub fn filters()
 
 /// The names of a record's columns are those above the records that tell the same.
 pub fn names()
-    ensures { (rows : List RowRecord) (f : Fault)
-        → names_text (message_head f.stamp f.address f.destination f.name) (saying_columns rows f.saying)
+    ensures { (naming : NamingRecord) (f : Fault)
+        → names_text (message_head f.stamp f.address f.destination f.name) (saying_columns naming f.saying)
         ≡ columns_with (saying_name f.saying) }
 {}

@@ -8,10 +8,11 @@ ghost use Rattle.j39_faults.specs.Conversions.{codes_by};
 ghost use Rattle.j39_faults.specs.declared.text.State.TheVariants.{Is};
 ghost use Rattle.j39_frame.specs.Stamp.{stamp_micros};
 ghost use Rattle.j39_listen.specs.HeardModel.{hearing_of};
-ghost use Rattle.j39_fault_reports.specs.Faults.{codes_or_none, fault_of, faults_by, lines_in, name_in, names_asked};
-ghost use Rattle.j39_fault_reports.specs.FaultRows.{clearing_columns, faults_text, message_columns, message_head, said_columns};
+ghost use Rattle.j39_fault_reports.specs.Faults.{active_or_lights, codes_or_none, fault_of, faults_by, lines_in, name_in, names_asked};
+ghost use Rattle.j39_fault_reports.specs.FaultRows.{clearing_columns, faults_text, message_columns, message_head, said_columns, saying_text};
 ghost use Rattle.j39_fault_reports.specs.FaultsSoFar.{are_lit, lights_line, line_of, manner_of, spns_now};
 ghost use Rattle.j39_listen.specs.Counting.{one_if};
+ghost use Rattle.j39_names.specs.Naming.{naming_of};
 ghost use Rattle.j39_rows.specs.Models.{column_of, head_of};
 ghost use Rattle.j39_rows.specs.Row.{row_text};
 
@@ -24,10 +25,10 @@ use j39_faults::{
     Code, Kind, Lamps, State, Version, clear_word, code_by, codes_of, lamps_told, parameter_words,
     state_word,
 };
-use j39_groups::Groups;
 use j39_io::{DeviceFault, Sink};
-use j39_listen::{Format, Heard};
-use j39_rows::{Cell, Column, Head, put_row};
+use j39_listen::{Clock, Format, Heard};
+use j39_names::Naming;
+use j39_rows::{Cell, Column, Head, put_columns, put_row};
 
 /// Writes a line for the lamps of a message, if they aren't all off, and one for each code, by this version of the conversion, or one
 /// that says that it has none, and answers how many.
@@ -156,7 +157,7 @@ fn put_shown<W: Sink>(
     said: Saying,
     sink: &mut W,
 ) -> Result<(), DeviceFault>
-    ensures { Puts (row_text writing.entry.form (head_of head.entry) (said_columns writing.entry.groups.now said.state said.lamps said.code))
+    ensures { Puts (row_text writing.entry.form (head_of head.entry) (said_columns (naming_of writing.entry.naming.now) said.state said.lamps said.code))
         result (turn W.written W.has_failed sink.old sink.new) }
 {
     let (name, word) = (state_name(said.state), state_word(said.state));
@@ -165,7 +166,7 @@ fn put_shown<W: Sink>(
     match said.code {
         Some(code) => {
             let words = parameter_words(code.parameter);
-            let parameter = parameter_of(writing.groups, code, words.as_slice());
+            let parameter = parameter_of(writing.naming, code, words.as_slice());
             put_row(
                 writing.form,
                 head,
@@ -180,11 +181,38 @@ fn put_shown<W: Sink>(
     }
 }
 
-/// What the table calls the parameter of a code, or else these words.
-fn parameter_of<'r>(groups: &'r Groups<'_>, code: Code, words: &'r [u8]) -> &'r [u8]
-    ensures { result.now ≡ unwrap_or (name_in groups.now code) words.now }
+/// Writes what a line says of a code that is active, or, of none, of the lamps. After a fault a front of it was written.
+pub fn put_active<'r, W: Sink>(
+    naming: &'r Naming<'r, '_>,
+    lamps: Lamps,
+    code: Option<Code>,
+    sink: &mut W,
+) -> Result<(), DeviceFault>
+    ensures { Puts (saying_text (naming_of naming.now) (active_or_lights lamps code)) result (turn W.written W.has_failed sink.old sink.new) }
 {
-    match name_in(groups, code) {
+    let state = State::Is(Kind::Active);
+    let (name, word) = (state_name(state), state_word(state));
+    let told = lamps_told(lamps);
+    let lamps = Cell::text(told.as_slice());
+    let form = Format::Line(Clock::Seconds);
+    match code {
+        Some(code) => {
+            let words = parameter_words(code.parameter);
+            let parameter = parameter_of(naming, code, words.as_slice());
+            put_columns(form, &coded(name, word, lamps, parameter, code), sink)
+        }
+        None => {
+            let columns = lights_columns(lamps);
+            put_columns(form, &columns, sink)
+        }
+    }
+}
+
+/// What the parameter of a code is called, or else these words.
+fn parameter_of<'r>(naming: &Naming<'r, '_>, code: Code, words: &'r [u8]) -> &'r [u8]
+    ensures { result.now ≡ unwrap_or (name_in (naming_of naming.now) code) words.now }
+{
+    match name_in(naming, code) {
         Some(name) => name,
         None => words,
     }

@@ -9,16 +9,17 @@ ghost use Rattle.j39_fault_reports.specs.FaultRun.{MakesFaults};
 ghost use Rattle.j39_fault_reports.specs.FaultRows.{fault_columns};
 ghost use Rattle.j39_fault_reports.specs.Faults.{manner_in};
 ghost use Rattle.j39_fault_reports.specs.FaultsSoFar.{spns_now};
+ghost use Rattle.j39_names.specs.Naming.{naming_of};
 ghost use Rattle.j39_listen.specs.Chooses.{which_of};
 ghost use Rattle.j39_fault_reports.specs.News.{chosen_of};
 
 use crate::fault_news::account::FaultNews;
 use crate::fault_news::form::Writing;
 use crate::fault_news::telling::{Choice, Telling};
-use j39_groups::Groups;
 use j39_io::{Sink, Source};
 use j39_listen::{Counts, Format, RunFault, run_headed_keeping, run_keeping};
 use j39_log::Bus;
+use j39_names::Naming;
 use std::alloc::Global;
 
 /// The columns of records of codes.
@@ -40,13 +41,13 @@ pub struct FaultCounts {
 }
 
 /// Writes the fault codes in a log of at most `limit` bytes: a line, a record of comma-separated values (RFC 4180),
-/// or an object (RFC 8259), for each code that is told of a message of faults, with the name that a table of parameters has for its parameter; one
+/// or an object (RFC 8259), for each code that is told of a message of faults, with the name of its parameter; one
 /// too for a message whose codes are told, and that has none. Before the lines of a message stands one of the lamps, if they aren't all
 /// off, or where changes are told, if they changed. The names of the columns of records are written before the
 /// log is read. Without a bus it is that of the first frame in the log.
 pub fn faults<R: Source, W: Sink>(
     alloc: Global,
-    groups: &Groups<'_>,
+    naming: &Naming<'_, '_>,
     format: Format,
     choice: Choice<'_>,
     source: &mut R,
@@ -57,14 +58,14 @@ pub fn faults<R: Source, W: Sink>(
     // What the run promises is `Ran`: what is written is the faults that are told in the frames of the log, and nothing
     // else. Memory is wanted only at a frame of the log that announces a message, or at the first message of faults of
     // its group from an address between the moments. And it counts which messages of codes were broken.
-    ensures told { ToldFaults (MakesFaults format (manner_in format groups.now (spns_now choice.entry.spns)) (chosen_of choice.entry)) (AsksForFaults choice.entry.telling (which_of choice.entry.filter)) bus limit result
+    ensures told { ToldFaults (MakesFaults format (manner_in format (naming_of naming.now) (spns_now choice.entry.spns)) (chosen_of choice.entry)) (AsksForFaults choice.entry.telling (which_of choice.entry.filter)) bus limit result
         (turn R.remaining R.has_failed source.old source.new) (turn W.written W.has_failed sink.old sink.new) }
 
     // What was written is passed on at the end, and before each read, the names of the columns before the first.
     ensures flushed { PassesOn result (begins_flushed format (W.is_flushed sink.old)) (W.is_flushed sink.new) }
 {
     let (form, spns) = (format, choice.spns);
-    let account = FaultNews::new(alloc, Writing { form, groups, spns }, choice);
+    let account = FaultNews::new(alloc, Writing { form, naming, spns }, choice);
     match format {
         Format::Line(_) => {
             let (ran, news) = run_keeping(account, source, sink, bus, limit);

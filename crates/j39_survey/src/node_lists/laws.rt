@@ -1,5 +1,6 @@
 //! Laws about the definitions, each the contract of a function that does nothing.
 ghost use Rattle.std.specs.Prelude.{◌≡◌, List, None};
+ghost use Rattle.j39_names.specs.declared.naming.Named.{Named};
 ghost use Rattle.j39_survey.specs.ByAddress.{shown_from};
 ghost use Rattle.j39_survey.specs.Nodes.{node_head};
 ghost use Rattle.j39_survey.specs.SeenNodes.{Presence, is_seen_node, seen_columns, seen_names};
@@ -12,5 +13,5 @@ pub fn filters()
 
 /// The names of the columns are those of the columns of each node's row.
 pub fn names()
-    ensures { (node : Presence) → names_text (node_head node.address) (seen_columns node) ≡ seen_names }
+    ensures { (own : List Named) (node : Presence) → names_text (node_head node.address) (seen_columns own node) ≡ seen_names }
 {}

@@ -31,7 +31,7 @@ use j39_listen::{
     Account, Counts, Format, LineFault, Made, RunFault, Sender, is_from, run_headed, run_over,
 };
 use j39_log::Bus;
-use j39_names::{function_name, maker_name};
+use j39_names::{Named, function_by, maker_by};
 use j39_rows::{Cell, Column, DASH, Place, Plain, put_row};
 
 /// The least silence that is told where nothing else is said, in microseconds: five seconds (own).
@@ -40,6 +40,8 @@ pub const LONG_SILENCE: u64 = 5_000_000;
 /// How nodes that are seen are written, and what is told of them.
 #[derive(Clone, Copy, Debug)]
 pub struct SeenAsked<'f> {
+    /// Names of one's own.
+    pub own: &'f [Named<'f>],
     /// How they are written.
     pub format: Format,
     /// The least silence that is told, in microseconds.
@@ -50,10 +52,9 @@ pub struct SeenAsked<'f> {
 
 /// Writes, after the whole log, a line for each address that is held, or from which a frame came since it was held last,
 /// rising: the address, the NAME that holds it, when it claimed it last, when a frame last came from there, and how long before the
-/// last frame of all, and the longest silence between two frames from there, each if it is long enough; or a record of
-/// comma-separated values (RFC 4180), or an object of JSON (RFC 8259), which have the moments in UTC too, and what the function
-/// and the maker that the NAME names are called, where that is known. The names of the columns of records are written before the
-/// log is read. The log has at most `limit` bytes; without a bus it is that of the first frame in it. It takes no memory; no
+/// last frame of all, and the longest silence between two frames from there, each if it is long enough, and what the function and the
+/// maker that the NAME names are called, where that is known; or a record of comma-separated values (RFC 4180), or an object of JSON
+/// (RFC 8259), which have the moments in UTC too. The names of the columns of records are written before the log is read. The log has at most `limit` bytes; without a bus it is that of the first frame in it. It takes no memory; no
 /// message counts.
 pub fn nodes_seen<R: Source, W: Sink>(
     asked: SeenAsked<'_>,
@@ -255,7 +256,7 @@ impl<'f> ByAddress for SeenList<'f> {
             return Ok(0);
         };
         if is_from(self.asked.from, node.address, node.name) {
-            put_seen(self.asked.format, node, sink)?;
+            put_seen(self.asked.own, self.asked.format, node, sink)?;
             Ok(1)
         } else {
             Ok(0)
@@ -296,17 +297,17 @@ impl<'f> Account for SeenList<'f> {
 }
 
 /// What the function of a NAME is called, if that is known.
-fn function_of(name: Option<Name>) -> Option<&'static [u8]>
-    ensures { option_map (λ called. called.now) result ≡ function_of (option_map name_raw name) }
+fn function_of<'f>(own: &[Named<'f>], name: Option<Name>) -> Option<&'f [u8]>
+    ensures { option_map (λ called. called.now) result ≡ function_of own.now (option_map name_raw name) }
 {
-    function_name(name?.function())
+    function_by(own, name?.function())
 }
 
 /// Who made the controller of a NAME, if that is known.
-fn maker_of(name: Option<Name>) -> Option<&'static [u8]>
-    ensures { option_map (λ called. called.now) result ≡ maker_of (option_map name_raw name) }
+fn maker_of<'f>(own: &[Named<'f>], name: Option<Name>) -> Option<&'f [u8]>
+    ensures { option_map (λ called. called.now) result ≡ maker_of own.now (option_map name_raw name) }
 {
-    maker_name(name?.manufacturer())
+    maker_by(own, name?.manufacturer())
 }
 
 /// A time in seconds, or nothing.
@@ -334,8 +335,8 @@ fn since_of(silence: Option<Silence>) -> Option<Stamp>
 }
 
 /// What the row of a node has behind its address.
-fn seen_columns(node: Node) -> [Column<'static>; 11]
-    ensures { map column_of result ≡ seen_columns (presence_of node) }
+fn seen_columns<'f>(own: &[Named<'f>], node: Node) -> [Column<'f>; 11]
+    ensures { map column_of result ≡ seen_columns own.now (presence_of node) }
 {
     let since = since_of(node.longest);
     [
@@ -356,14 +357,32 @@ fn seen_columns(node: Node) -> [Column<'static>; 11]
             Cell::seconds(since),
         ),
         Column::BesideLines(b"since_utc", Cell::utc(since)),
-        Column::BesideLines(b"function", Cell::optional(function_of(node.name))),
-        Column::BesideLines(b"manufacturer", Cell::optional(maker_of(node.name))),
+        Column::All(
+            b"function",
+            Place::IfAny(b" function "),
+            Cell::optional(function_of(own, node.name)),
+        ),
+        Column::All(
+            b"manufacturer",
+            Place::IfAny(b" manufacturer "),
+            Cell::optional(maker_of(own, node.name)),
+        ),
     ]
 }
 
 /// Writes the row of a node.
-fn put_seen<W: Sink>(form: Format, node: Node, sink: &mut W) -> Result<(), DeviceFault>
-    ensures { Puts (seen_in form (presence_of node)) result (turn W.written W.has_failed sink.old sink.new) }
+fn put_seen<W: Sink>(
+    own: &[Named<'_>],
+    form: Format,
+    node: Node,
+    sink: &mut W,
+) -> Result<(), DeviceFault>
+    ensures { Puts (seen_in own.now form (presence_of node)) result (turn W.written W.has_failed sink.old sink.new) }
 {
-    put_row(form, node_head(node.address), &seen_columns(node), sink)
+    put_row(
+        form,
+        node_head(node.address),
+        &seen_columns(own, node),
+        sink,
+    )
 }

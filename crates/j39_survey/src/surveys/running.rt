@@ -5,27 +5,28 @@ ghost use Rattle.j39_listen.specs.Asking.{AsksForBoxes, AsksWithin};
 ghost use Rattle.j39_listen.specs.Ran.{Ended, PassesOn};
 ghost use Rattle.j39_listen.specs.Run.{PassesLimit, TakesWithin};
 ghost use Rattle.j39_listen.specs.declared.running.RunFault.TheVariants.{Memory, Read, TooLong, Write};
+ghost use Rattle.j39_names.specs.Naming.{naming_of};
 ghost use Rattle.j39_survey.specs.SurveyRun.{Asked, StopsWithin, Surveyed, WritesFront, WritesSurvey};
 ghost use Rattle.j39_survey.specs.SurveySoFar.{HasReadLog, HasTaken, TakesSome};
 
 use crate::surveys::pieces::Pieces;
 use crate::surveys::writing::put_survey;
-use j39_groups::Groups;
 use j39_io::{DeviceFault, Sink, Source};
 use j39_listen::{Format, RunFault};
 use j39_log::Bus;
+use j39_names::Naming;
 use std::alloc::{AllocError, Global};
 
 /// The bytes of one read.
 const PIECE: usize = 65_536;
 
-/// Writes what a log of at most `limit` bytes is, in lines, records or objects: how many lines it has, its interfaces, the groups of one interface, by a
-/// table of parameters, its other lines by kind, and its unread lines. Without a bus the groups are those of the first frame's.
+/// Writes what a log of at most `limit` bytes is, in lines, records or objects: how many lines it has, its interfaces, the groups of one interface, by these
+/// names and their table, its other lines by kind, and its unread lines. Without a bus the groups are those of the first frame's.
 /// Nothing is written before the end of the log. It takes memory at the start and at announcements.
 pub fn survey<R: Source, W: Sink>(
     alloc: Global,
     form: Format,
-    groups: &Groups<'_>,
+    naming: &Naming<'_, '_>,
     source: &mut R,
     sink: &mut W,
     bus: Option<Bus>,
@@ -33,7 +34,7 @@ pub fn survey<R: Source, W: Sink>(
 ) -> Result<(), RunFault>
     // What the run promises is `Surveyed`: what is written is the survey of the log's lines, and nothing else, at the end
     // of the log. Memory is wanted before the first read, and at a frame that announces a message.
-    ensures ran { Surveyed (record { form = form; table = groups.now; given = bus }) limit result
+    ensures ran { Surveyed (record { form = form; naming = naming_of naming.now; given = bus }) limit result
         (turn R.remaining R.has_failed source.old source.new) (turn W.written W.has_failed sink.old sink.new) }
 
     // What was written is passed on at the end; before the end of the log nothing is.
@@ -41,7 +42,7 @@ pub fn survey<R: Source, W: Sink>(
     ensures unflushed { OnErr result (result ≢ Err Write → W.is_flushed sink.new ≡ W.is_flushed sink.old) }
 {
     match Pieces::new(alloc, bus) {
-        Ok(mut pieces) => survey_with(&mut pieces, form, groups, source, sink, limit),
+        Ok(mut pieces) => survey_with(&mut pieces, form, naming, source, sink, limit),
         Err(_) => Err(RunFault::Memory),
     }
 }
@@ -50,7 +51,7 @@ pub fn survey<R: Source, W: Sink>(
 fn survey_with<R: Source, W: Sink>(
     pieces: &mut Pieces,
     form: Format,
-    groups: &Groups<'_>,
+    naming: &Naming<'_, '_>,
     source: &mut R,
     sink: &mut W,
     limit: u64,
@@ -58,7 +59,7 @@ fn survey_with<R: Source, W: Sink>(
     // It ended as every run does, whatever the pieces had taken.
     ensures ended { Ended limit result
         (turn R.remaining R.has_failed source.old source.new) (turn W.written W.has_failed sink.old sink.new) }
-    ensures writes { (asked : Asked) → asked.form ≡ form → asked.table ≡ groups.now → HasTaken pieces.old asked.given []
+    ensures writes { (asked : Asked) → asked.form ≡ form → asked.naming ≡ naming_of naming.now → HasTaken pieces.old asked.given []
         → OnOk result (IfSome (R.remaining source.old)
         (λ log. WritesSurvey asked log (W.written sink.old) (W.written sink.new))) }
     ensures memory { result ≡ Err Memory → (given : Option (List ℕ)) → HasTaken pieces.old given []
@@ -66,10 +67,10 @@ fn survey_with<R: Source, W: Sink>(
     ensures at_limit { result ≡ Err TooLong
         → (taken : List ℕ) × PassesLimit limit (R.remaining source.old) (R.remaining source.new) taken }
     ensures silent { OnErr result (result ≢ Err Write → W.written sink.new ≡ W.written sink.old) }
-    ensures cut_short { (asked : Asked) → asked.form ≡ form → asked.table ≡ groups.now → HasTaken pieces.old asked.given []
+    ensures cut_short { (asked : Asked) → asked.form ≡ form → asked.naming ≡ naming_of naming.now → HasTaken pieces.old asked.given []
         → result ≡ Err Write → IfSome (R.remaining source.old)
         (λ log. WritesFront asked log (W.written sink.old) (W.written sink.new)) }
-    ensures prefix { (asked : Asked) → asked.form ≡ form → asked.table ≡ groups.now → HasTaken pieces.old asked.given []
+    ensures prefix { (asked : Asked) → asked.form ≡ form → asked.naming ≡ naming_of naming.now → HasTaken pieces.old asked.given []
         → OnErr result (StopsWithin asked (R.remaining source.old)
         (R.remaining source.new) (W.written sink.old) (W.written sink.new)) }
     ensures flushed { OnOk result (W.is_flushed sink.new ≡ true) }
@@ -79,7 +80,7 @@ fn survey_with<R: Source, W: Sink>(
         Ok(()) => {}
         Err(fault) => return Err(fault),
     }
-    match put_survey(form, groups, &pieces.survey, sink) {
+    match put_survey(form, naming, &pieces.survey, sink) {
         Ok(()) => Ok(()),
         Err(DeviceFault) => Err(RunFault::Write),
     }

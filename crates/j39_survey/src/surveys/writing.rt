@@ -12,7 +12,8 @@ ghost use Rattle.j39_listen.specs.Heard.{Hearing};
 ghost use Rattle.j39_survey.specs.LogLines.{LogLine};
 ghost use Rattle.j39_survey.specs.SurveyModels.{HasCounted, HasSurveyed, HaveCounted, interface_record, others_record, row_shown, shown_record};
 ghost use Rattle.j39_survey.specs.UnreadLines.{is_printed_log};
-ghost use Rattle.j39_survey.specs.SurveyText.{class_of, elsewhere_text, group_named, group_row, group_text, groups_from, groups_text, interface_row, names_in, note_text, printed_text, row_in, shown_row, survey_end, survey_head, survey_text};
+ghost use Rattle.j39_names.specs.Naming.{naming_of};
+ghost use Rattle.j39_survey.specs.SurveyText.{class_of, elsewhere_text, group_row, group_text, groups_from, groups_text, interface_row, names_in, note_text, printed_text, row_in, shown_row, survey_end, survey_head, survey_text};
 
 use crate::surveys::group_table::{GroupCount, GroupTable};
 use crate::surveys::interfaces::{InterfaceCounts, Interfaces};
@@ -27,7 +28,7 @@ use j39_frame::Pgn;
 use j39_groups::{Groups, is_network_group};
 use j39_io::{DeviceFault, Sink, put_all};
 use j39_listen::Format;
-use j39_names::group_name;
+use j39_names::Naming;
 use j39_rows::{Cell, Plain, put_parts};
 
 /// The names of the columns.
@@ -40,17 +41,17 @@ const PRINTED: &[u8] = b"this is plain candump output, not candump -L";
 /// Writes the survey of all lines, and passes it on. After a fault a front was written.
 pub(crate) fn put_survey<W: Sink>(
     form: Format,
-    groups: &Groups<'_>,
+    naming: &Naming<'_, '_>,
     survey: &Survey,
     sink: &mut W,
 ) -> Result<(), DeviceFault>
     ensures puts { (given : Option (List ℕ)) (lines : List LogLine) → (h : HasSurveyed survey.now given lines)
-        → Puts (survey_text form groups.now given lines h.heard) result (turn W.written W.has_failed sink.old sink.new) }
+        → Puts (survey_text form (naming_of naming.now) given lines h.heard) result (turn W.written W.has_failed sink.old sink.new) }
     ensures mark { Marks result (W.has_failed sink.old) (W.has_failed sink.new) }
     ensures flushed { OnOk result (W.is_flushed sink.new ≡ true) }
 {
     put_head(form, survey.lines, &survey.interfaces, sink)?;
-    put_groups(form, groups, &survey.traffic.groups, sink)?;
+    put_groups(form, naming, &survey.traffic.groups, sink)?;
     put_end(
         form,
         &survey.others,
@@ -125,16 +126,16 @@ fn put_elsewhere<W: Sink>(form: Format, frames: u64, sink: &mut W) -> Result<(),
 /// Writes a row for each group that has frames, rising.
 fn put_groups<W: Sink>(
     form: Format,
-    groups: &Groups<'_>,
+    naming: &Naming<'_, '_>,
     table: &GroupTable,
     sink: &mut W,
 ) -> Result<(), DeviceFault>
     ensures puts { (F : List FrameRecord) (heard : List Hearing) → HaveCounted table.now (came_in F heard)
-        → Puts (groups_text form groups.now (came_in F heard)) result (turn W.written W.has_failed sink.old sink.new) }
+        → Puts (groups_text form (naming_of naming.now) (came_in F heard)) result (turn W.written W.has_failed sink.old sink.new) }
     ensures mark { Marks result (W.has_failed sink.old) (W.has_failed sink.new) }
 {
     for front in 0..1024 {
-        put_front(form, groups, table, front, sink)?;
+        put_front(form, naming, table, front, sink)?;
     }
     Ok(())
 }
@@ -142,28 +143,28 @@ fn put_groups<W: Sink>(
 /// Writes the rows of the groups whose pages and PF are these: one where PF is below 240, else 256.
 fn put_front<W: Sink>(
     form: Format,
-    groups: &Groups<'_>,
+    naming: &Naming<'_, '_>,
     table: &GroupTable,
     front: u32,
     sink: &mut W,
 ) -> Result<(), DeviceFault>
     requires { front < 1024 }
     ensures puts { (F : List FrameRecord) (heard : List Hearing) → HaveCounted table.now (came_in F heard)
-        → Puts (groups_from form groups.now (came_in F heard) (front * 256) 256) result (turn W.written W.has_failed sink.old sink.new) }
+        → Puts (groups_from form (naming_of naming.now) (came_in F heard) (front * 256) 256) result (turn W.written W.has_failed sink.old sink.new) }
     ensures mark { Marks result (W.has_failed sink.old) (W.has_failed sink.new) }
 {
     let first = front * 256;
     if front % 256 < 240 {
-        put_at(form, groups, table, first, sink)
+        put_at(form, naming, table, first, sink)
     } else {
-        put_each(form, groups, table, first, sink)
+        put_each(form, naming, table, first, sink)
     }
 }
 
 /// Writes the rows of 256 groups from the first on.
 fn put_each<W: Sink>(
     form: Format,
-    groups: &Groups<'_>,
+    naming: &Naming<'_, '_>,
     table: &GroupTable,
     first: u32,
     sink: &mut W,
@@ -172,11 +173,11 @@ fn put_each<W: Sink>(
     requires heard { 240 ≤ first / 256 % 256 }
     requires begins { first % 256 ≡ 0 }
     ensures puts { (came : ℕ → Came) → HaveCounted table.now came
-        → Puts (groups_from form groups.now came first 256) result (turn W.written W.has_failed sink.old sink.new) }
+        → Puts (groups_from form (naming_of naming.now) came first 256) result (turn W.written W.has_failed sink.old sink.new) }
     ensures mark { Marks result (W.has_failed sink.old) (W.has_failed sink.new) }
 {
     for low in 0..256 {
-        put_at(form, groups, table, first + low, sink)?;
+        put_at(form, naming, table, first + low, sink)?;
     }
     Ok(())
 }
@@ -185,19 +186,19 @@ fn put_each<W: Sink>(
 #[inline(always)]
 fn put_at<W: Sink>(
     form: Format,
-    groups: &Groups<'_>,
+    naming: &Naming<'_, '_>,
     table: &GroupTable,
     raw: u32,
     sink: &mut W,
 ) -> Result<(), DeviceFault>
     requires { IsHeardGroup raw }
     ensures puts { (came : ℕ → Came) → HaveCounted table.now came
-        → Puts (group_text form groups.now raw (group_of (came raw))) result (turn W.written W.has_failed sink.old sink.new) }
+        → Puts (group_text form (naming_of naming.now) raw (group_of (came raw))) result (turn W.written W.has_failed sink.old sink.new) }
     ensures mark { Marks result (W.has_failed sink.old) (W.has_failed sink.new) }
 {
     match Pgn::new(raw) {
         None => Ok(()),
-        Some(pgn) => put_group(form, groups, pgn, table.count(pgn), sink),
+        Some(pgn) => put_group(form, naming, pgn, table.count(pgn), sink),
     }
 }
 
@@ -206,19 +207,19 @@ fn put_at<W: Sink>(
 #[tactic(auto, unfolding(crate::specs::SurveyText::group_text))]
 fn put_group<W: Sink>(
     form: Format,
-    groups: &Groups<'_>,
+    naming: &Naming<'_, '_>,
     pgn: Pgn,
     group: &GroupCount,
     sink: &mut W,
 ) -> Result<(), DeviceFault>
     ensures puts { (c : Came) → HasCounted group.now c
-        → Puts (group_text form groups.now (pgn_raw pgn) (group_of c)) result (turn W.written W.has_failed sink.old sink.new) }
+        → Puts (group_text form (naming_of naming.now) (pgn_raw pgn) (group_of c)) result (turn W.written W.has_failed sink.old sink.new) }
     ensures mark { Marks result (W.has_failed sink.old) (W.has_failed sink.new) }
 {
     if group.arrivals.count == 0 {
         Ok(())
     } else {
-        put_line(form, groups, pgn, group, sink)
+        put_line(form, naming, pgn, group, sink)
     }
 }
 
@@ -226,21 +227,21 @@ fn put_group<W: Sink>(
 #[inline(never)]
 fn put_line<W: Sink>(
     form: Format,
-    groups: &Groups<'_>,
+    naming: &Naming<'_, '_>,
     pgn: Pgn,
     group: &GroupCount,
     sink: &mut W,
 ) -> Result<(), DeviceFault>
     ensures puts { (c : Came) → HasCounted group.now c
-        → Puts (row_in form (group_row groups.now (pgn_raw pgn) (group_of c))) result (turn W.written W.has_failed sink.old sink.new) }
+        → Puts (row_in form (group_row (naming_of naming.now) (pgn_raw pgn) (group_of c))) result (turn W.written W.has_failed sink.old sink.new) }
     ensures mark { Marks result (W.has_failed sink.old) (W.has_failed sink.new) }
 {
-    group_row(groups, pgn, group).put(form, sink)
+    group_row(naming, pgn, group).put(form, sink)
 }
 
 /// The row of a group.
-fn group_row<'r>(groups: &'r Groups<'_>, pgn: Pgn, group: &GroupCount) -> SurveyRow<'r>
-    ensures { (c : Came) → HasCounted group.now c → row_shown result ≡ group_row groups.now (pgn_raw pgn) (group_of c) }
+fn group_row<'r>(naming: &Naming<'r, '_>, pgn: Pgn, group: &GroupCount) -> SurveyRow<'r>
+    ensures { (c : Came) → HasCounted group.now c → row_shown result ≡ group_row (naming_of naming.now) (pgn_raw pgn) (group_of c) }
 {
     let spread = &group.arrivals.distances.spread;
     let (least, mean, most) = spread_cells(spread);
@@ -255,8 +256,8 @@ fn group_row<'r>(groups: &'r Groups<'_>, pgn: Pgn, group: &GroupCount) -> Survey
         mean,
         most,
         since: silent_since(spread),
-        class: Cell::Is(Plain::Word(class_of(groups, pgn))),
-        name: Cell::optional(group_named(groups, pgn)),
+        class: Cell::Is(Plain::Word(class_of(naming.groups, pgn))),
+        name: Cell::optional(naming.group_name(pgn)),
         ..NO_ROW
     }
 }
@@ -271,16 +272,6 @@ fn class_of<'r>(groups: &'r Groups<'_>, pgn: Pgn) -> &'r [u8]
         b"network"
     } else {
         b"not read"
-    }
-}
-
-/// What a group is called: by the table, or else by its short name.
-fn group_named<'r>(groups: &'r Groups<'_>, pgn: Pgn) -> Option<&'r [u8]>
-    ensures { option_map (λ name. name.now) result ≡ group_named groups.now (pgn_raw pgn) }
-{
-    match groups.group_name(pgn) {
-        Some(name) => Some(name),
-        None => group_name(pgn.raw()),
     }
 }
 

@@ -85,9 +85,11 @@ returns-in-Ok c =
               bus_is = c.in-Ok.ensures.0 ∙ bus_is;
               table_is = search rules;
               asked_is = asked_is;
+              head_is = search rules;
               format_is = format_is;
               files_are = c.in-Ok.ensures.1;
             },
+            search rules,
             conversions_is,
             told_is,
           ))))));

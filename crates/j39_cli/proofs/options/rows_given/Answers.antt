@@ -35,6 +35,7 @@ returns-in-Ok-clause-read c =
       bus_is = c.in-Ok.ensures.0 ∙ bus_is;
       table_is = search rules;
       asked_is = asked_is;
+      head_is = search rules;
       format_is = format_is;
       files_are = c.in-Ok.ensures.1;
     })))

@@ -1,5 +1,6 @@
 -- The bus is checked, then what is asked for, the rows and the width; FILE is kept last.
-use Rattle.j39_cli.proofs.Common.{◌∙◌, ◌-◌, ap, codes, drop, rules, take, unwrap_or, found_of}
+use Rattle.j39_cli.proofs.Common.{◌∙◌, ◌-◌, codes, drop, if◌then◌else◌, rules, take, unwrap_or, found_of}
+use Rattle.j39_listen.specs.declared.format.Clock.TheVariants.{Seconds, Utc}
 use Rattle.j39_cli.specs.Answer.{OrMemory}
 use Rattle.j39_cli.specs.CommandWords.{command_found, form_of}
 use Rattle.j39_cli.proofs.CheckLemmas.{passed, stopped}
@@ -67,11 +68,14 @@ returns-in-Ok c =
           passed next (take 1 (drop 8 all)) (drop 9 all) _ _ _ c.in_ok-width.ensures.read.read (λ width_is. (
             c.in-Ok.ensures.0 ∙ bus_is,
             search rules,
+            search rules,
             asked_is,
-            (λ i. record {
-              rows = (c.size_for-size.ensures.rows ∙ ap (λ n. unwrap_or n 24 - 1) rows_are) i;
-              width = (c.size_for-size.ensures.width ∙ ap (λ n. unwrap_or n 80) width_is) i;
-            }),
+            (c.size_for-size.ensures.size ∙ (λ i. record {
+              rows = unwrap_or (rows_are i) 24 - 1;
+              width = unwrap_or (width_is i) 80;
+              is_coloured = c.is_set.ensures i;
+              clock = if c.is_set-2.ensures i then Utc else Seconds;
+            })),
             c.in-Ok.ensures.1,
           )))));
       memory = search rules;

@@ -23,7 +23,7 @@ each P a b (suc (suc i)) m e = absurd (cc)
 
 first_answered : AreAnswered first.who first.history
 unfolding receiving.recv_step session.takes_signal receiving.said_to frame.source_of signal.said_between frame.destination_of cutting.cut_frame cutting.announcement_of cutting.packet_of cutting.packet_data
-first_answered = ((((((((((((tt, refl), refl), refl), refl), tt), refl), refl), refl), refl), refl), refl), refl)
+first_answered = (((((((((((((tt, refl), refl), refl), refl), tt), refl), refl), refl), refl), refl), refl), refl), refl)
 
 first_in_time : InTime 0 404000 first.history
 first_in_time = (omega arith, (omega arith, (omega arith, (omega arith, (omega arith, (omega arith, (omega arith, (omega arith, (omega arith, (omega arith, (omega arith, (omega arith, omega arith))))))))))))
@@ -73,6 +73,13 @@ returns-clause-never c = net _
 
 pub returns-clause-announced : goal.returns-clause-announced
 returns-clause-announced c = net _
+
+pub returns-clause-told : goal.returns-clause-told
+returns-clause-told c = (net _, refl, (((tt, (omega arith, refl)), (omega arith, refl)), (omega arith, refl)))
+
+pub returns-clause-welcome : goal.returns-clause-welcome
+unfolding frame.source_of frame.destination_of frame.group_of frame.goes frame.names_message frame.is_announcement frame.is_packet
+returns-clause-welcome c = record { box = refl; none = refl; holder = (refl, (refl, (refl, tt))) }
 
 pub returns-clause-comes : goal.returns-clause-comes
 returns-clause-comes c = first_comes

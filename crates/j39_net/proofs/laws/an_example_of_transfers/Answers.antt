@@ -69,6 +69,10 @@ returns-clause-joined c = record {
 pub returns-clause-done : goal.returns-clause-done
 returns-clause-done c = refl
 
+pub returns-clause-done_in : goal.returns-clause-done_in
+unfolding sending.new_sender sending.send_step sending.ticks_in sending.sends_packet sending.hears sending.cleared sending.acknowledged receiving.recv_step receiving.said_to session.takes_signal signal.said_between signal.said_by signal.control_in frame.group_of frame.source_of frame.destination_of cutting.packet_data
+returns-clause-done_in c = (omega arith, refl)
+
 pub returns-clause-whole : goal.returns-clause-whole
 unfolding receiving.recv_step receiving.said_to session.takes_signal session.takes_request session.begun session.grants session.granted_at session.takes_data session.takes_packet session.goes_on session.delivers_message signal.said_between signal.said_by signal.control_in signal.request_in signal.packet_in signal.written frame.source_of frame.destination_of frame.group_of frame.names_message key.key_between
 returns-clause-whole c = refl

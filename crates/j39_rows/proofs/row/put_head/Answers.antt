@@ -1,9 +1,5 @@
 -- What opens the row, its first column, and those behind it.
-use Rattle.std.proofs.Common.{sym}
-use Rattle.std.proofs.lemmas.List.Folds.{flat_map-map}
-use Rattle.j39_io.proofs.PutsLemmas.{puts_as, puts_first, puts_then}
-use Rattle.j39_rows.specs.Models.{column_of}
-use Rattle.j39_rows.specs.Row.{column_text}
+use Rattle.j39_io.proofs.PutsLemmas.{puts_first, puts_then}
 use Rattle.j39_rows.proofs.row.put_head.Goals as goal
 
 pub returns-in_err-put_opening : goal.returns-in_err-put_opening
@@ -17,5 +13,4 @@ returns-in_err-put_plain g c =
 pub returns : goal.returns
 returns g c =
     puts_then _ _ _ _ _ _ _ c.in_ok-put_opening.ensures
-    (puts_then _ _ _ _ _ _ _ c.in_ok-put_plain.ensures
-    (puts_as _ _ _ _ (sym (flat_map-map (column_text c.args.form) column_of c.args.head.columns.now)) c.put_columns.ensures))
+    (puts_then _ _ _ _ _ _ _ c.in_ok-put_plain.ensures c.put_columns.ensures)

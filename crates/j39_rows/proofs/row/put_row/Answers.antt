@@ -1,9 +1,6 @@
 -- What the row begins with, the columns behind it, and what closes it.
-use Rattle.std.proofs.Common.{sym}
-use Rattle.std.proofs.lemmas.List.Folds.{flat_map-map}
 use Rattle.j39_io.proofs.PutsLemmas.{puts_as, puts_first, puts_then}
-use Rattle.j39_rows.specs.Models.{column_of}
-use Rattle.j39_rows.specs.Row.{column_text, row_text}
+use Rattle.j39_rows.specs.Row.{row_text}
 use Rattle.j39_rows.proofs.row.put_row.Goals as goal
 
 pub returns-in_err-put_head : goal.returns-in_err-put_head
@@ -14,11 +11,11 @@ pub returns-in_err-put_columns : goal.returns-in_err-put_columns
 unfolding row_text
 returns-in_err-put_columns g c =
     puts_then _ _ _ _ _ _ _ c.in_ok-put_head.ensures (puts_first _ _ _ _ _ c.from_residual-in_err-put_columns.ensures.0
-    (puts_as _ _ _ _ (sym (flat_map-map (column_text c.args.form) column_of c.args.columns.now)) c.in_err-put_columns.ensures))
+    c.in_err-put_columns.ensures)
 
 pub returns : goal.returns
 unfolding row_text
 returns g c =
     puts_then _ _ _ _ _ _ _ c.in_ok-put_head.ensures
-    (puts_then _ _ _ _ _ _ _ (puts_as _ _ _ _ (sym (flat_map-map (column_text c.args.form) column_of c.args.columns.now)) c.in_ok-put_columns.ensures)
+    (puts_then _ _ _ _ _ _ _ c.in_ok-put_columns.ensures
     (puts_as _ _ _ _ c.closing.ensures c.put_all.ensures.puts))

@@ -1,5 +1,5 @@
 -- A number of whole bytes fits.
-use Rattle.std.proofs.Common.{◌≡◌, ◌≤◌, ◌-◌, ◌*◌, ◌^◌, arith}
+use Rattle.std.proofs.Common.{◌-◌, arith}
 use Rattle.std.proofs.Math.Pow.{pow_mono}
 use Rattle.j39_table.proofs.states.bits_limit.Goals as goal
 

@@ -1,5 +1,5 @@
 -- A number of bytes fits.
-use Rattle.std.proofs.Common.{◌≡◌, ◌≤◌, ◌*◌, ◌^◌, arith}
+use Rattle.std.proofs.Common.{arith}
 use Rattle.j39_groups.specs.Models.{field_record}
 use Rattle.j39_table.proofs.StateLemmas.{limit_fits}
 use Rattle.j39_table.proofs.states.states_limit.Goals as goal

@@ -8,8 +8,8 @@ use Rattle.j39_watch.proofs.lines.fault_line.Goals as goal
 
 pub returns : goal.returns
 returns c =
-    let w = c.args.view.width + 1 in
-    let w0 : c.new-line.result.width ≡ w = c.new-line.ensures.width ∙ ap (λ n. n + 1) c.from.ensures in
+    let w = c.args.view.size.width + 1 in
+    let w0 : c.new-line.result.width ≡ w = c.new-line.ensures.width ∙ ap (λ n. n + 1) (c.from.ensures ∙ c.width.ensures.value) in
     let w1 = c.push_controller.ensures.width ∙ w0 in
     let w2 = c.push_age.ensures.width ∙ w1 in
     let named : c.map.result ≡ option_map name_raw c.args.name = search rules in

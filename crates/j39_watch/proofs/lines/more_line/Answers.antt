@@ -6,8 +6,8 @@ use Rattle.j39_watch.proofs.lines.more_line.Goals as goal
 
 pub returns : goal.returns
 returns c =
-    let w = c.args.width + 1 in
-    let w0 : c.new-line.result.width ≡ w = c.new-line.ensures.width ∙ ap (λ n. n + 1) c.from.ensures in
+    let w = c.args.size.width + 1 in
+    let w0 : c.new-line.result.width ≡ w = c.new-line.ensures.width ∙ ap (λ n. n + 1) (c.from.ensures ∙ c.width.ensures.value) in
     let w1 = c.push_number_column.ensures.width ∙ w0 in
     let s0 = cut_none w _ c.new-line.ensures.empty in
     let s1 = cut_step w _ _ _ _ _ _ w0 refl s0 c.push_number_column.ensures.cut in

@@ -20,4 +20,4 @@ returns-clause-cut c =
     ap (λ m. m / 100000) (c.saturating_sub-tenths.ensures ∙ (λ i. c.micros.ensures.value i - c.micros-2.ensures.value i)) in
     c.push_column.ensures.cut _ (before_then _ _ _ _ _ _ _ _ (before_then _ _ _ _ _ _ _ _ (before_then _ _ _ _ _ _ _ _ c.byte_before-second.ensures c.number_before-tenth.ensures)
     c.byte_before-point.ensures) c.number_before-start.ensures)
-    ∙ ap (λ (t : List ℕ). take c.args.line.now.width (c.args.line.now.bytes.items ++ column 6 t)) (regroup n ∙ ap age_text age)
+    ∙ ap (λ (t : List ℕ). take c.args.line.now.width (c.args.line.now.bytes.items ++ column c.args.width t)) (regroup n ∙ ap age_text age)

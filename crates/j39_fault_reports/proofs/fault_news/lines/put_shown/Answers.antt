@@ -1,4 +1,5 @@
 -- The row of a code, or that there is none.
+use Rattle.j39_names.specs.Naming.{naming_of}
 use Rattle.j39_fault_reports.proofs.Common.{◌∙◌, List, ℕ, ap, codes, unwrap_or, puts_as, cell_of, head_of, CellRecord, ColumnRecord, row_text, text_or_nothing}
 use Rattle.j39_faults.specs.Text.{lamps_told, state_text}
 use Rattle.j39_fault_reports.specs.FaultRows.{coded, state_name, uncoded}
@@ -25,4 +26,4 @@ returns-in-Some g c =
     ∙ ap (λ word. shown (state_name how) word (cell_of c.text-lamps.result) c.parameter_of-parameter.result.now) c.state_word-word.ensures.text
     ∙ ap (λ cell. shown (state_name how) (state_text how) cell c.parameter_of-parameter.result.now) (c.text-lamps.ensures ∙ ap text_or_nothing (c.as_slice.ensures.value ∙ c.lamps_told-told.ensures.text))
     ∙ ap (shown (state_name how) (state_text how) lamps) (c.parameter_of-parameter.ensures
-    ∙ ap (unwrap_or (name_in c.args.writing.groups.now code)) (c.as_slice-in-Some.ensures.value ∙ c.parameter_words-words.ensures)))) c.put_row.ensures)
+    ∙ ap (unwrap_or (name_in (naming_of c.args.writing.naming.now) code)) (c.as_slice-in-Some.ensures.value ∙ c.parameter_words-words.ensures)))) c.put_row.ensures)

@@ -1,11 +1,12 @@
 -- What holds of the pieces at the start of a log.
+use Rattle.j39_names.specs.Naming.{naming_of}
 use Rattle.std.proofs.Common.{inr, refl}
 use Rattle.j39_survey.specs.SurveyRun.{Asked}
 use Rattle.j39_survey.proofs.surveys.running.survey.Goals as goal
 
 pub returns-in-Ok-clause-ran : goal.returns-in-Ok-clause-ran
 returns-in-Ok-clause-ran g c =
-    let asked : Asked = record { form = c.args.form; table = c.args.groups.now; given = c.args.bus } in
+    let asked : Asked = record { form = c.args.form; naming = (naming_of c.args.naming.now); given = c.args.bus } in
     let run = c.survey_with.ensures in
     record {
       ended = run.ended;

@@ -19,5 +19,5 @@ returns c = λ came h i. record no_row {
   most = (c.spread_cells.ensures.most ∙ ap (apart (λ s. s.longest.length)) h.arrived.distances_are.spread_is) i;
   since = (c.silent_since.ensures ∙ ap (option_map (λ s. s.longest.since)) h.arrived.distances_are.spread_is) i;
   class = plain (word (c.class_of.ensures i));
-  name = (c.optional.ensures ∙ ap (or_nothing text) c.group_named.ensures) i;
+  name = (c.optional.ensures ∙ ap (or_nothing text) c.group_name.ensures) i;
 }

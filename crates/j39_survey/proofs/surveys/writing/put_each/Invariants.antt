@@ -1,4 +1,4 @@
-use Rattle.j39_survey.proofs.Common.{◌≡◌, ℕ, Ok, Puts, turn}
+use Rattle.j39_survey.proofs.Common.{naming_of, ◌≡◌, ℕ, Ok, Puts, turn}
 use Rattle.j39_survey.specs.GroupCounts.{Came}
 use Rattle.j39_survey.specs.SurveyModels.{HaveCounted}
 use Rattle.j39_survey.specs.SurveyText.{groups_from}
@@ -8,5 +8,5 @@ use Rattle.j39_survey.proofs.surveys.writing.put_each.Given as goal
 abbrev pub invariant-loop-low : goal.invariant-loop-low
 invariant-loop-low g l =
     ((came : ℕ → Came) → HaveCounted l.table came
-    → Puts {T = Unit} {E = Unit} (groups_from l.form l.groups came l.first l.low) (Ok tt) (turn g.W.Sink.written g.W.Sink.has_failed l.initial.sink l.sink))
+    → Puts {T = Unit} {E = Unit} (groups_from l.form (naming_of l.naming) came l.first l.low) (Ok tt) (turn g.W.Sink.written g.W.Sink.has_failed l.initial.sink l.sink))
     × (g.W.Sink.has_failed l.sink ≡ g.W.Sink.has_failed l.initial.sink)

@@ -1,13 +1,14 @@
 -- Nothing was heard.
 use Rattle.std.proofs.Common.{Bor, List, [], ap, option_map, refl}
-use Rattle.j39_frame.specs.Stamp.{stamp_micros}
 use Rattle.j39_groups.specs.Row.{RowRecord}
+use Rattle.j39_frame.specs.Stamp.{stamp_micros}
 use Rattle.j39_fault_reports.proofs.CurrentLemmas.{kept_none}
 use Rattle.j39_watch.proofs.account.Screens.new.Goals as goal
 
 pub returns : goal.returns
 returns c = record {
   keeps = record {
+    named = refl;
     by = ap (λ (x : Bor (List RowRecord)). x.now) c.new.ensures;
     size_is = refl;
     last_is = ap (option_map stamp_micros) c.new-6.ensures;

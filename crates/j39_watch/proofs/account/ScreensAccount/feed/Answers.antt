@@ -11,6 +11,7 @@ pub returns-in-Ok-clause-met : goal.returns-in-Ok-clause-met
 returns-in-Ok-clause-met g c = on_ok_from c.draw_if.result _ _ (λ written subject.
     let self = c.args.self.now in
     let after : Screens = record {
+      naming = self.naming;
       roles = c.note-2.new.roles;
       size = self.size;
       chooser = c.note.new.self;
@@ -21,7 +22,8 @@ returns-in-Ok-clause-met g c = on_ok_from c.draw_if.result _ _ (λ written subje
       moment = c.go_on-draws.new.self;
     } in
     let stamp = ap (λ (f : FrameRecord). f.stamp) c.frame.view_is in
-    let next : Follows subject.groups subject.which subject.size self after c.args.frame.now c.in-Ok.messages = record {
+    let next : Follows subject.naming subject.groups subject.which subject.size self after c.args.frame.now c.in-Ok.messages = record {
+      naming_is = refl;
       table = c.note-2.ensures.table;
       same = refl;
       last = ap (option_map stamp_micros) c.go_on-draws.ensures.last ∙ ap Some stamp;
@@ -29,7 +31,7 @@ returns-in-Ok-clause-met g c = on_ok_from c.draw_if.result _ _ (λ written subje
       chooses = c.note.ensures;
       notes = c.in-Ok.ensures.noted;
     } in
-    watch_meets subject.groups subject.which subject.size self after c.args.frame.now c.in-Ok.messages c.go_on-draws.result _ _ next
+    watch_meets subject.naming subject.groups subject.which subject.size self after c.args.frame.now c.in-Ok.messages c.go_on-draws.result _ _ next
     (c.go_on-draws.ensures.due ∙ ap (is_due _) stamp) (written subject.which))
     (each_on_ok c.draw_if.result (λ which F. Chooses which c.note.new.self F) _ (λ which F chosen. (c.draw_if.ensures.puts which F chosen).written))
 
@@ -37,6 +39,7 @@ pub returns-in-Ok-clause-stops : goal.returns-in-Ok-clause-stops
 returns-in-Ok-clause-stops g c = λ failed subject.
     let self = c.args.self.now in
     let after : Screens = record {
+      naming = self.naming;
       roles = c.note-2.new.roles;
       size = self.size;
       chooser = c.note.new.self;
@@ -47,7 +50,8 @@ returns-in-Ok-clause-stops g c = λ failed subject.
       moment = c.go_on-draws.new.self;
     } in
     let stamp = ap (λ (f : FrameRecord). f.stamp) c.frame.view_is in
-    let next : Follows subject.groups subject.which subject.size self after c.args.frame.now c.in-Ok.messages = record {
+    let next : Follows subject.naming subject.groups subject.which subject.size self after c.args.frame.now c.in-Ok.messages = record {
+      naming_is = refl;
       table = c.note-2.ensures.table;
       same = refl;
       last = ap (option_map stamp_micros) c.go_on-draws.ensures.last ∙ ap Some stamp;
@@ -55,5 +59,5 @@ returns-in-Ok-clause-stops g c = λ failed subject.
       chooses = c.note.ensures;
       notes = c.in-Ok.ensures.noted;
     } in
-    watch_stops subject.groups subject.which subject.size self after c.args.frame.now c.in-Ok.messages c.go_on-draws.result c.args.arg2.now _ _ next
+    watch_stops subject.naming subject.groups subject.which subject.size self after c.args.frame.now c.in-Ok.messages c.go_on-draws.result c.args.arg2.now _ _ next
     (c.go_on-draws.ensures.due ∙ ap (is_due _) stamp) (λ F chosen. written_front c.draw_if.result _ _ failed (c.draw_if.ensures.puts subject.which F chosen).front)
