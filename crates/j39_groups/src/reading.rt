@@ -1,5 +1,5 @@
 //! What is read in the payload of a group (J1939-71), by the built-in table.
-ghost use Rattle.std.specs.Prelude.{◌≡◌, ◌+◌, ◌≤◌, ◌<◌, ◌==◌, ◌++◌, map, filter, slice_get, take, true};
+ghost use Rattle.std.specs.Prelude.{◌≡◌, ◌+◌, ◌≤◌, ◌<◌, ◌==◌, ◌++◌, [], map, filter, slice_get, take, true};
 ghost use Rattle.std.specs.List.{filter_map, flat_map, list_all};
 ghost use Rattle.std.specs.Option.{option_map, option_to_list};
 ghost use Rattle.arrayvec.specs.ArrayVec.{array_vec_len};
@@ -16,7 +16,7 @@ use crate::field::Field;
 use crate::row::Row;
 use crate::table::built_in_rows;
 use crate::value::{Reading, Value};
-use crate::value_in::{bytes_from, filled_text_of, value_in};
+use crate::value_in::{bytes_from, filled_text_of, short_in, value_in};
 use arrayvec::ArrayVec;
 use j39_frame::Pgn;
 
@@ -127,7 +127,7 @@ fn pick_of_rows<'t, 'v>(
     ensures { IsPicked (flat_map (row_readings pgn bytes.now) rows.now) left result }
 {
     for row in rows {
-        if row.pgn == pgn {
+        if row.pgn == pgn && !is_absent(row, bytes) {
             match pick_of_row(row, bytes, left) {
                 Ok(reading) => return Ok(reading),
                 Err(rest) => left = rest,
@@ -137,13 +137,30 @@ fn pick_of_rows<'t, 'v>(
     Err(left)
 }
 
+/// Whether a row's number or switch is past the payload's end, or not available: a short way past the row.
+#[inline(always)]
+#[tactic(auto, unfolding(crate::specs::Readings::values_at))]
+fn is_absent(row: &Row<'_>, bytes: &[u8]) -> bool
+    requires { is_sound row.now.field ≡ true }
+    ensures { result ≡ true → readings_at bytes.now (row_record row.now) ≡ [] }
+{
+    match row.field {
+        Field::Number { .. } => short_in(bytes, &row.field).is_none(),
+        Field::Bits { .. } => short_in(bytes, &row.field).is_none(),
+        Field::Switch { .. } => short_in(bytes, &row.field).is_none(),
+        Field::Full { .. } => false,
+        Field::Text { .. } => false,
+        Field::Texts { .. } => false,
+    }
+}
+
 /// The reading behind so many, `left`, of those that a row, as `Row::new` makes it, gives in a payload of its group (J1939-71);
 /// else how many are still to be left out.
 pub fn pick<'t, 'v>(row: &Row<'t>, bytes: &'v [u8], left: usize) -> Result<Reading<'t, 'v>, usize>
     requires { is_row row.now ≡ true }
     ensures { IsPicked (readings_at bytes.now (row_record row.now)) left result }
 {
-    pick_of_row(row, bytes, left)
+    pick_of_rows(&[*row], row.pgn, bytes, left)
 }
 
 /// The same, by one row.

@@ -11,6 +11,9 @@ use Rattle.j39_groups.proofs.ListLemmas.{pick_here}
 use Rattle.j39_groups.proofs.RowLemmas.{row_at, row_is}
 use Rattle.j39_groups.proofs.reading.pick_of_rows.Goals as goal
 
+pub is_absent-requires : goal.is_absent-requires
+is_absent-requires c = (row_is _ (row_at c.args.rows.now c.loop-row.row-index _ c.requires c.loop-row-test.true)).sound
+
 pub pick_of_row-requires : goal.pick_of_row-requires
 pick_of_row-requires c = (row_is _ (row_at c.args.rows.now c.loop-row.row-index _ c.requires c.loop-row-test.true)).sound
 
