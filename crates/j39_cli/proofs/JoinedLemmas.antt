@@ -1,7 +1,7 @@
 -- What is left of logs one behind the other, after a read of the first, and behind its end.
-use Rattle.j39_cli.proofs.Common.{◌≡◌, ◌∙◌, ◌<◌, ◌≤◌, ◌-◌, ◌==◌, ℕ, zero, suc, Bool, true, false, not, List, [], ◌∷◌, ◌++◌, Option, None, Some, ap, arith, append_assoc, length, refl, slice_index_or, take, if◌then◌else◌, option_map, Consumes, IsAtEnd, Keeps, prepend_known, Keeps-refl, newline}
+use Rattle.j39_cli.proofs.Common.{◌≡◌, ◌∙◌, ◌<◌, ◌≤◌, ◌-◌, ◌==◌, ℕ, zero, suc, Bool, true, false, not, List, [], ◌∷◌, ◌++◌, Option, None, Some, ap, arith, append_assoc, length, refl, slice_index_or, take, if◌then◌else◌, option_map, Consumes, Keeps, prepend_known, Keeps-refl, newline}
 use Rattle.j39_cli.specs.Joined.{all_known, ended, is_open, joined, joined_known}
-use Rattle.j39_cli.specs.JoinedSoFar.{GoesOn, left_of}
+use Rattle.j39_cli.specs.JoinedSoFar.{left_of}
 
 is_open-append : (before : Bool) (xs ys : List ℕ) → is_open before (xs ++ ys) ≡ is_open (is_open before xs) ys
 is_open-append before [] ys = refl
@@ -44,22 +44,6 @@ left-kept before old new [] kept = kept
 left-kept before None new (next ∷ rest) kept = tt
 left-kept before (Some x) None (next ∷ rest) kept = absurd kept
 left-kept before (Some x) (Some y) (next ∷ rest) kept = rw kept (Keeps-refl (prepend_known (ended before x) (left_of false next rest)))
-
--- behind the end of the first
-pub left-next : (before : Bool) (old next : Option (List ℕ)) (rest : List (Option (List ℕ))) → IsAtEnd old
-    → GoesOn before (left_of before old (next ∷ rest)) (left_of false next rest)
-left-next true None next rest end = tt
-left-next false None next rest end = tt
-left-next true (Some x) next rest end = rw end (go (left_of false next rest))
-  where
-    go : (behind : Option (List ℕ)) → Consumes (prepend_known (newline ∷ []) behind) behind (newline ∷ [])
-    go None = tt
-    go (Some text) = refl
-left-next false (Some x) next rest end = rw end (go (left_of false next rest))
-  where
-    go : (behind : Option (List ℕ)) → Keeps (prepend_known [] behind) behind
-    go None = tt
-    go (Some text) = refl
 
 -- before anything is read
 pub left-joined : (first : Option (List ℕ)) (rest : List (Option (List ℕ))) → left_of false first rest ≡ joined_known (first ∷ rest)

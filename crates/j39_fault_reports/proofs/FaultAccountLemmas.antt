@@ -1,5 +1,5 @@
 -- What is told of more messages, and of more frames.
-use Rattle.j39_fault_reports.proofs.Common.{◌≡◌, ◌∙◌, ◌+◌, ◌<◌, ◌≤◌, ℕ, zero, suc, true, false, List, [], ◌∷◌, ◌++◌, Option, Some, None, ap, append-nil, append_assoc, arith, filter, inl, inr, length, length-append, refl, slice_get, subst, sym, take, cases_Bool, cond-true, cond-false, flat_map-append, take-append-le, filter-append, Appends, Appends-nil, FrameRecord, Begins, MakesOne, Meets, Stops, capped, Chooses, FilterRecord, first_stamp, in_time, is_in_time, no_filter, takes_message, Chooser, AreHeardWith, Hearing, LeavesNetwork, or_none, Hears, Output, made_of, made_sum, Made, heard_more, capped-sum, same_made, heard_below_unique, heard_first, Bool, count_by, if◌then◌else◌, Clock, Format, Line}
+use Rattle.j39_fault_reports.proofs.Common.{◌≡◌, ◌∙◌, ◌+◌, ◌<◌, ◌≤◌, ℕ, zero, suc, true, false, List, [], ◌∷◌, ◌++◌, Option, Some, None, ap, append-nil, append_assoc, arith, filter, inl, inr, length, length-append, refl, slice_get, subst, sym, take, cases_Bool, cond-true, cond-false, flat_map-append, take-append-le, filter-append, Appends, Appends-nil, FrameRecord, Begins, MakesOne, Meets, Stops, capped, Chooses, FilterRecord, first_stamp, in_time, is_in_time, takes_message, Chooser, AreHeardWith, Hearing, LeavesNetwork, or_none, Hears, Output, made_of, made_sum, Made, heard_more, capped-sum, same_made, heard_below_unique, heard_first, Bool, count_by, if◌then◌else◌, Clock, Format, Line}
 use Rattle.j39_fault_reports.specs.Faults.{Fault, Manner, asks_fault, faults_taken, lines_in, says_asked}
 use Rattle.j39_fault_reports.specs.Told.{told, told_below, told_here}
 use Rattle.j39_fault_reports.specs.News.{Chosen, chosen_of, faults_among, is_fault_group, is_of_faults}
@@ -28,11 +28,6 @@ module _ (which : FilterRecord) (first : ℕ) where
 
   pub in_time_no : (h : Hearing) → is_in_time which first h.stamp ≡ false → in_time which first (h ∷ []) ≡ []
   in_time_no h isnt = cond-false _ _ _ isnt
-
--- without a filter all are
-pub all_in_time : (first : ℕ) (hs : List Hearing) → in_time no_filter first hs ≡ hs
-all_in_time first [] = refl
-all_in_time first (h ∷ hs) = ap (λ xs. h ∷ xs) (all_in_time first hs)
 
 -- with more frames the first is the same
 pub same_times : (which : FilterRecord) (p : Hearing → Bool) (F G : List FrameRecord) (heard : List Hearing) → AreHeardWith is_fault_group F heard

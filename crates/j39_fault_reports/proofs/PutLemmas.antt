@@ -1,5 +1,5 @@
 -- What is told of one message.
-use Rattle.j39_fault_reports.proofs.Common.{◌≡◌, ◌≢◌, ◌∙◌, ◌<◌, ◌≤◌, ◌^◌, ◌&&◌, ◌||◌, ℕ, Bool, true, false, List, [], ◌∷◌, ◌++◌, Option, Some, or-true, None, ap, append-nil, arith, cases_Bool, inl, inr, is_some, length, nat_le, refl, subst, sym, Result, Ok, Err, IfOk, OnOk, le-leb, Appends, Appends-nil, AppendsFront, Puts, Device, Turn, puts_as, puts_nothing, cleared_in, kind_of, lamps_of, Kind, Active, Previous, EmissionPending, EmissionActive, EmissionPrevious, Pending, Permanent, Lamps, LeavesWriter, capped, LineFault, in_time, is_in_time, takes_message, Hearing, Made, capped-fits, same_made, version_for, Version, Format}
+use Rattle.j39_fault_reports.proofs.Common.{◌≡◌, ◌≢◌, ◌∙◌, ◌<◌, ◌≤◌, ◌^◌, ◌&&◌, ◌||◌, ℕ, Bool, true, false, List, [], ◌∷◌, ◌++◌, Option, Some, or-true, None, ap, append-nil, arith, cases_Bool, inl, inr, is_some, length, nat_le, refl, subst, sym, Result, Ok, Err, IfOk, le-leb, Appends, Appends-nil, AppendsFront, Puts, Device, Turn, puts_as, puts_nothing, cleared_in, kind_of, lamps_of, Kind, Active, Previous, EmissionPending, EmissionActive, EmissionPrevious, Pending, Permanent, Lamps, LeavesWriter, capped, LineFault, in_time, is_in_time, takes_message, Hearing, Made, capped-fits, same_made, version_for, Version, Format}
 use Rattle.j39_listen.specs.declared.account.LineFault.TheVariants.{Memory, Write}
 use Rattle.j39_fault_reports.specs.Faults.{Fault, Manner, clearing_of, faults_by, faults_in, faults_or_clearing, faults_taken, lines_in, names_asked}
 use Rattle.j39_fault_reports.specs.News.{Chosen, is_clearing, is_news, is_of_codes, is_of_faults, last_from, says_other}
@@ -71,11 +71,6 @@ tells_faults form rows faults (Ok made) sink counts puts never =
     record { made = counts; written = puts.written; stops = λ is. absurd (cc is); writer = leaves_writer _ (Ok made) sink puts never }
 tells_faults form rows faults (Err e) sink counts puts never =
     record { made = tt; written = tt; stops = λ is. puts.front; writer = leaves_writer _ (Err e) sink puts never }
-
--- whatever the result
-pub on_any : {T E : Type 0} {P : Type 0} (r : Result T E) → P → OnOk r P
-on_any (Ok x) p = p
-on_any (Err e) p = tt
 
 pub refused : (form : Format) (rows : Manner) (faults : List Fault) (d : Device) → TellsFaults form rows faults (Err Memory) (record { old = d; new = d })
 refused form rows faults d = record {

@@ -1,5 +1,5 @@
 -- What the rows of a group give, and the lines of it.
-use Rattle.std.proofs.Common.{◌≡◌, ◌<◌, ◌≤◌, ◌+◌, ◌-◌, ◌*◌, ◌==◌, ◌++◌, ℕ, zero, suc, List, [], ◌∷◌, Bool, true, false, length, drop, get_or, map, refl, sym, ap, ap₂, ◌∙◌, arith, length-append, subst, drop-cons, inl, inr}
+use Rattle.std.proofs.Common.{◌≡◌, ◌<◌, ◌≤◌, ◌+◌, ◌-◌, ◌*◌, ◌==◌, ◌++◌, ℕ, suc, List, [], ◌∷◌, Bool, true, false, length, drop, get_or, map, refl, sym, ap, ap₂, ◌∙◌, arith, length-append, subst, drop-cons, inl, inr}
 use Rattle.std.specs.Prelude.{◌&&◌, filter, not, Option, Result, Ok, Err, OnOk, slice_get}
 use Rattle.std.specs.List.{filter_map, flat_map, list_all, list_any}
 use Rattle.std.proofs.lemmas.Bool.{and_parts, cases_Bool, eqb-true, ne_eqb}
@@ -26,14 +26,6 @@ any_by_filter p [] = refl
 any_by_filter p (x ∷ xs) = elim (cases_Bool (p x)) [
   | inl passes ↦ let some : (suc (length (filter p xs)) == 0) ≡ false = ne_eqb _ _ (λ e. omega arith) in rw (passes, some) refl
   | inr fails ↦ rw fails (any_by_filter p xs)
-]
-
-pub any_at : {X : Type 0} (p : X → Bool) (xs : List X) (k : ℕ) (d : X) → k < length xs → p (get_or xs k d) ≡ true → list_any p xs ≡ true
-any_at p [] k d below h = absurd (omega (arith, below))
-any_at p (x ∷ xs) zero d below h = rw h refl
-any_at p (x ∷ xs) (suc k) d below h = elim (cases_Bool (p x)) [
-  | inl passes ↦ rw passes refl
-  | inr fails ↦ rw fails (any_at p xs k d (omega (arith, below)) h)
 ]
 
 -- what is told of the rows of a group

@@ -3,7 +3,7 @@ use Rattle.std.proofs.Common.{◌≡◌, ◌≤◌, ◌-◌, ◌/◌, ◌%◌, �
 use Rattle.std.specs.Prelude.{◌==◌, ◌&&◌, nat_le, Option, Some, None, IfSome, if◌then◌else◌, codes}
 use Rattle.std.specs.Option.{option_map, option_and_then, option_to_list}
 use Rattle.std.specs.Fmt.{decimal, digits, digits_onto}
-use Rattle.std.proofs.lemmas.Bool.{and_parts, false≢true, leb-true, le-leb, ltb-true, eq-eqb, eqb-true}
+use Rattle.std.proofs.lemmas.Bool.{and_parts, false≢true, leb-true, le-leb, ltb-true, eqb-true}
 use Rattle.std.specs.Str.{bytes_eq}
 use Rattle.std.proofs.lemmas.Slice.Eq.{bytes_eq-Decides}
 use Rattle.j39_groups.specs.declared.field.Field.{Field}
@@ -58,16 +58,6 @@ scale_end_is end scale h =
     let short = and_parts (nat_le end.text.from 16) (nat_le end.places 15) first.0 in
     let both = and_parts (end.places == scale.places) (bytes_eq (short_text end.text) (32 ∷ (scale.unit.now ++ (10 ∷ [])))) first.1 in
     record { from = leb-true _ _ short.0; few = leb-true _ _ short.1; places = eqb-true _ _ both.0; text = (bytes_eq-Decides _ _).0 both.1 }
-
--- the end of a scale that was written passes the test
-pub scale_end_from : (end : Ending) (scale : Slot) → end.text.from ≤ 16 → scale.places ≤ 15 → end.places ≡ scale.places
-    → short_text end.text ≡ 32 ∷ (scale.unit.now ++ (10 ∷ [])) → is_scale_end end scale ≡ true
-scale_end_from end scale inside few places text =
-    let i : nat_le end.text.from 16 ≡ true = le-leb _ _ inside in
-    let a : nat_le end.places 15 ≡ true = le-leb _ _ (omega (arith, few, places)) in
-    let p : (end.places == scale.places) ≡ true = eq-eqb _ _ places in
-    let b = (bytes_eq-Decides _ _).1 text in
-    rw (i, a, p, b) refl
 
 ends_if : (end : Ending) (a b c d : Bool) (v : ValueRecord) → HasEnd end v
     → IfSome (if a then Some v else (if b then Some indicator else (if c then Some reserved else (if d then Some error else None)))) (HasEnd end)
@@ -155,9 +145,6 @@ three a b c = simp append_assoc refl
 
 pub signed_then : (sign digits text space unit end : List ℕ) → text ≡ space ++ (unit ++ end) → sign ++ digits ++ text ≡ ((sign ++ digits) ++ space ++ unit) ++ end
 signed_then sign digits text space unit end is = ap (λ t. sign ++ digits ++ t) is ∙ (simp append_assoc refl)
-
-pub number_then : (digits space unit end : List ℕ) → digits ++ (space ++ (unit ++ end)) ≡ (digits ++ space ++ unit) ++ end
-number_then digits space unit end = simp append_assoc refl
 
 pub labelled_line : (head pgn spn value end label : List ℕ) → label ≡ (pgn ++ (32 ∷ [])) ++ (spn ++ (32 ∷ []))
     → head ++ (label ++ (value ++ end)) ≡ (head ++ pgn ++ codes " ") ++ spn ++ codes " " ++ value ++ end

@@ -1,12 +1,11 @@
 -- What holds of the whole table, row by row.
-use Rattle.std.proofs.Common.{sym, ◌≡◌, ◌<◌, ◌≤◌, ◌+◌, ◌==◌, ◌++◌, ℕ, List, [], ◌∷◌, Bool, length, get_or, take, refl, ap, ◌∙◌, true, false, arith, map, inl, inr}
+use Rattle.std.proofs.Common.{sym, ◌≡◌, ◌<◌, ◌≤◌, ◌+◌, ◌==◌, ℕ, List, [], ◌∷◌, Bool, length, get_or, take, refl, ap, ◌∙◌, true, false, arith, map, inl, inr}
 use Rattle.std.specs.Prelude.{nat_le, filter, slice_get, if◌then◌else◌, Option, Some}
-use Rattle.std.specs.List.{filter_map, flat_map, Contains, All, list_all, list_any}
+use Rattle.std.specs.List.{filter_map, Contains, All, list_all, list_any}
 use Rattle.std.proofs.lemmas.Bool.{and_parts, cases_Bool, leb-true, eq-eqb, ne_eqb, false≢true}
-use Rattle.std.proofs.lemmas.List.Sums.{AllPass-from_list_all, sum_by_more, sum_by_more_le}
-use Rattle.std.proofs.lemmas.List.{append-nil}
-use Rattle.std.proofs.lemmas.Grind.{flat_map-append}
-use Rattle.std.proofs.lemmas.List.Elements.{All-contains, All-head, All-tail, filter_more}
+use Rattle.std.proofs.lemmas.List.Sums.{AllPass-from_list_all, sum_by_more_le}
+
+use Rattle.std.proofs.lemmas.List.Elements.{All-contains, All-head, All-tail}
 use Rattle.j39_groups.specs.declared.row.Row.{Row}
 use Rattle.j39_groups.specs.Row.{RowRecord}
 use Rattle.j39_groups.specs.Table.{the_table}
@@ -26,32 +25,6 @@ room rows pgn i d h below same =
     let next : (if (get_or rows i d).pgn == pgn then most_values (get_or rows i d).field else 0) ≡ most_values (get_or rows i d).field =
     rw (eq-eqb _ _ same) refl in
     omega (arith, group, front, next)
-
-pub values_more : (rows : List Row) (pgn i : ℕ) (d : Row) → i < length rows → (get_or rows i d).pgn ≡ pgn
-    → most_values_of pgn (take (i + 1) rows) ≡ most_values_of pgn (take i rows) + most_values (get_or rows i d).field
-values_more rows pgn i d below same =
-    sum_by_more (λ row. if row.pgn == pgn then most_values row.field else 0) rows i d below ∙ (rw (eq-eqb _ _ same) refl)
-
-pub values_kept : (rows : List Row) (pgn i : ℕ) (d : Row) → i < length rows
-    → most_values_of pgn (take i rows) ≤ most_values_of pgn (take (i + 1) rows)
-values_kept rows pgn i d below =
-    let more = sum_by_more (λ row. if row.pgn == pgn then most_values row.field else 0) rows i d below in
-    omega (arith, more)
-
--- what a filtered list gives grows by what its next element gives
-chosen_more : {X Y : Type 0} (f : X → List Y) (p : X → Bool) (xs : List X) (i : ℕ) (d : X) → i < length xs
-    → flat_map f (filter p (take (i + 1) xs)) ≡ flat_map f (filter p (take i xs)) ++ flat_map f (if p (get_or xs i d) then (get_or xs i d ∷ []) else [])
-chosen_more f p xs i d below = ap (flat_map f) (filter_more p xs i d below) ∙ flat_map-append f (filter p (take i xs)) _
-
-pub chosen_yes : {X Y : Type 0} (f : X → List Y) (p : X → Bool) (xs : List X) (i : ℕ) (d : X) → i < length xs → p (get_or xs i d) ≡ true
-    → flat_map f (filter p (take (i + 1) xs)) ≡ flat_map f (filter p (take i xs)) ++ f (get_or xs i d)
-chosen_yes f p xs i d below passes =
-    chosen_more f p xs i d below ∙ ap (λ ys. flat_map f (filter p (take i xs)) ++ ys) ((rw passes refl) ∙ append-nil (f (get_or xs i d)))
-
-pub chosen_no : {X Y : Type 0} (f : X → List Y) (p : X → Bool) (xs : List X) (i : ℕ) (d : X) → i < length xs → p (get_or xs i d) ≡ false
-    → flat_map f (filter p (take (i + 1) xs)) ≡ flat_map f (filter p (take i xs))
-chosen_no f p xs i d below fails =
-    chosen_more f p xs i d below ∙ ap (λ ys. flat_map f (filter p (take i xs)) ++ ys) (rw fails refl) ∙ append-nil (flat_map f (filter p (take i xs)))
 
 -- no parameter has a slot in two rows
 abbrev has_one_slot : RowRecord → Bool

@@ -68,10 +68,5 @@ pub columns_joined : (a b c d e f g h space end : List ℕ)
     ≡ flat_map (λ (part : List ℕ). part) (a ∷ space ∷ b ∷ space ∷ c ∷ space ∷ d ∷ space ∷ e ∷ space ∷ f ∷ space ∷ g ∷ space ∷ h ∷ end ∷ [])
 columns_joined a b c d e f g h space end = simp (append_assoc, append-nil) refl
 
--- the parts of a number's text, and what follows it
-pub number_parts : (sign magnitude space unit end : List ℕ)
-    → sign ++ (magnitude ++ (space ++ (unit ++ end))) ≡ sign ++ magnitude ++ space ++ unit ++ end
-number_parts sign magnitude space unit end = simp append_assoc refl
-
 pub spaced_joined : (text space unit : List ℕ) → text ++ space ++ unit ≡ flat_map (λ (part : List ℕ). part) (text ∷ space ∷ unit ∷ [])
 spaced_joined text space unit = simp (append_assoc, append-nil) refl

@@ -18,11 +18,6 @@ use Rattle.j39_groups.specs.Visits.{StopsAmong, TakesMore}
 pub takes_none : {S V : Type 0} (has_taken : S → V → List SightingRecord → Type 0) (v : V) → TakesMore has_taken v v []
 takes_none has_taken v = λ s before h. subst (has_taken s v) (sym (append-nil before)) h
 
-pub takes_then : {S V : Type 0} (has_taken : S → V → List SightingRecord → Type 0) (a b c : V) (xs ys zs : List SightingRecord) → zs ≡ xs ++ ys
-    → TakesMore has_taken a b xs → TakesMore has_taken b c ys → TakesMore has_taken a c zs
-takes_then has_taken a b c xs ys zs is first next = λ s before h.
-    subst (has_taken s c) (append_assoc before xs ys ∙ ap (λ rs. before ++ rs) (sym is)) (next s (before ++ xs) (first s before h))
-
 pub stops_at : {S V : Type 0} (has_taken : S → V → List SightingRecord → Type 0) (wants : S → List SightingRecord → SightingRecord → Type 0) (v : V) (r : SightingRecord)
     → ((s : S) (before : List SightingRecord) → has_taken s v before → wants s before r) → StopsAmong has_taken wants v (r ∷ [])
 stops_at has_taken wants v r wanted = λ s before h. record {

@@ -62,9 +62,6 @@ obeys_one old new call now frame steps = λ node is.
       is_node = s.is_node;
     }
 
-pub obeys_none : (claimer : Claimer) (now : ℕ) → Obeys claimer [] now [] claimer
-obeys_none claimer now = λ node is. record { after = node; called = (refl, refl); is_node = is }
-
 pub obeys-append : (a b c : Claimer) (first later : List Call) (now : ℕ) (xs ys : List FrameRecord) → Obeys a first now xs b → Obeys b later now ys c
     → Obeys a (first ++ later) now (xs ++ ys) c
 obeys-append a b c first later now xs ys f l = λ node is.

@@ -35,10 +35,6 @@ unfolding announces
 announces_key s (Frame f) h = (announcement_facts s f h).key
 announces_key s (Forget t) h = absurd (both_ways false refl h)
 
-forget_gap : (s : ℕ) (e : Event) → forgets s e ≡ true → is_forget e ≡ true
-forget_gap s (Frame f) h = absurd (both_ways false refl h)
-forget_gap s (Forget t) h = refl
-
 -- ---- E(F) against F
 
 module _ (F : List FrameRecord) (E : List Event) (h : WithForgets F (length F) E) where

@@ -138,10 +138,6 @@ pub heard_at_same : (singles : ℕ → Bool) (F G : List FrameRecord) (i : ℕ) 
 heard_at_same singles F G i None h k = λ x y. k x (heard_same singles G F i x (same_below_sym h) y)
 heard_at_same singles F G i (Some x) h k = heard_same singles F G i x h k
 
-pub heard_at_prefix : (singles : ℕ → Bool) (F G : List FrameRecord) (i : ℕ) (o : Option Hearing) → i < length F → HeardAtWith singles F i o ↔ HeardAtWith singles (F ++ G) i o
-heard_at_prefix singles F G i o l =
-    ((λ h. heard_at_same singles F (F ++ G) i o (same_below_append F G (suc i) l) h), (λ h. heard_at_same singles (F ++ G) F i o (same_below_sym (same_below_append F G (suc i) l)) h))
-
 pub holder_prefix : (F G : List FrameRecord) (i a : ℕ) (o : Option ℕ) → i ≤ length F → IsHolder (claims_of F) i a o ↔ IsHolder (claims_of (F ++ G)) i a o
 holder_prefix F G i a o l =
     ((λ h. holder_same F (F ++ G) i i a o (same_below_append F G i l) (omega arith) h), (λ h. holder_same (F ++ G) F i i a o (same_below_sym (same_below_append F G i l)) (omega arith) h))

@@ -14,8 +14,3 @@ more : (k n : ℕ) → 10 ≤ n → n < 2 ^ 64 → decimal (n / 10) ≡ last_dig
 more k n low high e =
     let less : k + 1 - 1 ≡ k = omega arith in
     decimal_step n low high ∙ ap (λ ds. ds ++ ((48 + n % 10) ∷ [])) (e ∙ ap (λ i. last_digits i (n / 10)) (sym less)) ∙ sym (last_digits_step (k + 1) n (omega arith))
-
-pub five_digits : (n : ℕ) → 10000 ≤ n → n < 100000 → decimal n ≡ last_digits 5 n
-five_digits n low high =
-    more 4 n (omega arith) (omega arith)
-    (more 3 (n / 10) (omega arith) (omega arith) (more 2 (n / 10 / 10) (omega arith) (omega arith) (more 1 (n / 10 / 10 / 10) (omega arith) (omega arith) (one (n / 10 / 10 / 10 / 10) (omega arith)))))

@@ -3,11 +3,10 @@ use Rattle.j39_transport.proofs.Taken.{whole_ends}
 use Rattle.j39_listen.proofs.Reported.{not_single, packet_group, reported_leaves}
 use Rattle.j39_transport.proofs.Unique.{one_message}
 use Rattle.j39_address.proofs.OrderLemmas.{same_rising}
-use Rattle.j39_address.proofs.HolderLemmas.{none_above}
-use Rattle.j39_listen.proofs.Rising.{Listed, contains_of}
+
 use Rattle.j39_listen.specs.Report.{IsReport}
-use Rattle.std.proofs.Common.{◌≡◌, ◌⊎◌, ℕ, zero, suc, ◌+◌, ◌<◌, Bool, true, List, [], ◌∷◌, ◌++◌, map, length, Option, Some, None, refl, sym, ap, ◌∙◌, subst, inl, inr, flat_map, arith, append-nil, append_assoc, length-append}
-use Rattle.std.proofs.lemmas.Bool.{cases_lt}
+use Rattle.std.proofs.Common.{◌≡◌, ◌⊎◌, ℕ, zero, suc, ◌+◌, Bool, true, List, [], ◌∷◌, ◌++◌, map, length, Option, Some, None, refl, sym, ap, ◌∙◌, subst, inl, inr, flat_map, arith, append-nil, append_assoc, length-append}
+
 use Rattle.j39_address.proofs.HolderLemmas.{same_holder}
 use Rattle.j39_address.specs.Claim.{Claim, claims_of}
 use Rattle.j39_address.specs.Holder.{IsHolder}
@@ -99,13 +98,6 @@ report_unique groups F es fs h k = h.2 ∙ (ap (λ (hs : List Hearing). flat_map
 pub changed_unique : (C : List (Option Claim)) (n : ℕ) (gone away : List ℕ) → Changed C n gone → Changed C n away → gone ≡ away
 changed_unique C n gone away h k =
     same_rising gone away h.rising k.rising (λ a l. k.all a (h.changed a l)) (λ a l. h.all a (k.changed a l))
-
--- nobody holds an address from 254 on, so none of them changes
-pub listed_below : (C : List (Option Claim)) (n a : ℕ) (gone : List ℕ) → Changed C n gone → Listed a gone → a < 254
-listed_below C n a gone h l = elim (cases_lt a 254) [
-  | inl w ↦ w
-  | inr w ↦ absurd (h.changed a (contains_of a gone l) None None (none_above C n a w) (none_above C (suc n) a w) refl)
-]
 
 pub forgets_unique : (F : List FrameRecord) (n : ℕ) (E D : List Event) → WithForgets F n E → WithForgets F n D → E ≡ D
 forgets_unique F zero E D h k = h ∙ sym k

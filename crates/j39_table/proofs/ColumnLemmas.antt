@@ -35,10 +35,6 @@ front_passes p xs =
     recursion_from_All (λ x. p x ≡ true) (take (prefix_len p xs) xs)
     (All-from_get_or (λ x. p x ≡ true) (take (prefix_len p xs) xs) 0 (λ i lt. let e = prefix_len_passes p xs i 0 in grind (arith, common_steps)))
 
-weaker : (P Q : ℕ → Type 0) → ((x : ℕ) → P x → Q x) → (xs : List ℕ) → AllByRecursion P xs → AllByRecursion Q xs
-weaker P Q f [] h = tt
-weaker P Q f (x ∷ xs) h = (f x h.0, weaker P Q f xs h.1)
-
 -- ---- numbers
 
 pub decimal_number : (text : List ℕ) (n : ℕ) → n < 2 ^ 64 → text ≡ decimal n → AllDigits 10 text × (digits_value 10 text ≡ n)

@@ -175,23 +175,6 @@ wrong_scale place bits make s o u fault makes number wrong = record {
   wrong = wrong_after place bits make s o u wrong.count makes number wrong.wrong;
 }
 
-made_same : (bits : ℕ) (make : SlotRecord → FieldRecord) (place : Position) (field : FieldRecord) (s o u : List ℕ) (slot : SlotRecord) → Makes place bits make
-    → s ≢ codes "-" → AreColumnsOf (IsGoodScale bits) slot_columns (s ∷ o ∷ u ∷ []) slot → (s ∷ o ∷ u ∷ []) ≡ scale_columns field
-    → Made bits make field → field ≡ make slot
-made_same bits make place field s o u slot makes number says e (made other good is) =
-    is ∙ ap make (says.only other good (e ∙ ap scale_columns is ∙ makes.scale_is other))
-made_same bits make place field s o u slot makes number says e (dashed is) = absurd (number (first_of _ _ _ _ (e ∙ is)))
-
-pub good_field : (place : Position) (bits : ℕ) (make : SlotRecord → FieldRecord) (s o u : List ℕ) (slot : SlotRecord) → Makes place bits make → s ≢ codes "-"
-    → AreColumnsOf (IsGoodScale bits) slot_columns (s ∷ o ∷ u ∷ []) slot
-    → AreColumnsOf IsGoodField field_columns (text_of_place place ∷ s ∷ o ∷ u ∷ []) (make slot)
-good_field place bits make s o u slot makes number says = record {
-  good = makes.good slot says.good;
-  texts_are =
-      ap (λ xs. text_of_place place ∷ xs) (says.texts_are ∙ sym (makes.scale_is slot))
-      ∙ ap (λ p. p ∷ scale_columns (make slot)) (sym (makes.place_is slot));
-  only = λ field good e.
-      made_same bits make place field s o u slot makes number says (rest_of _ _ _ _ e) (makes.only field good (sym (first_of _ _ _ _ e)));
 }
 
 -- ---- fields without a scale

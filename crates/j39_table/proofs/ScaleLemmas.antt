@@ -3,7 +3,7 @@ use Rattle.std.proofs.Common.{◌≡◌, ◌<◌, ◌≤◌, ◌+◌, ◌-◌, �
 use Rattle.std.proofs.lemmas.Grind.{pow_more}
 use Rattle.j39_groups.specs.Value.{SlotRecord}
 use Rattle.j39_groups.specs.ValueText.{scaled_text}
-use Rattle.j39_table.specs.Agreement.{AreColumnsOf, IsWrongAfter}
+use Rattle.j39_table.specs.Agreement.{IsWrongAfter}
 use Rattle.j39_table.specs.Rows.{IsGoodScale, slot_columns}
 use Rattle.j39_table.specs.Scales.{SaysOffset, SaysStep}
 use Rattle.j39_table.specs.Words.{IsWord}
@@ -92,14 +92,6 @@ second_of a b a' b' xs ys e = cc
 pub third_of : (a b a' b' a'' b'' : List ℕ) (xs ys : List (List ℕ)) → a ∷ a' ∷ a'' ∷ xs ≡ b ∷ b' ∷ b'' ∷ ys → a'' ≡ b''
 third_of a b a' b' a'' b'' xs ys e = cc
 
-abbrev slot_from : ℤ → ℤ → ℕ → List ℕ → SlotRecord
-slot_from step offset places unit = record { step = step; offset = offset; places = places; unit = unit }
-
-same_slot : (a b : SlotRecord) → a.step ≡ b.step → a.offset ≡ b.offset → a.places ≡ b.places → a.unit ≡ b.unit → a ≡ b
-same_slot a b step offset places unit =
-    ap (λ (s : ℤ). slot_from s a.offset a.places a.unit) step ∙ ap (λ (o : ℤ). slot_from b.step o a.places a.unit) offset
-    ∙ ap (λ (p : ℕ). slot_from b.step b.offset p a.unit) places ∙ ap (λ (u : List ℕ). slot_from b.step b.offset b.places u) unit
-
 pub wrong_step : (bits : ℕ) (s o u : List ℕ) → bits ≤ 32 → ((step places : ℕ) → SaysStep s bits step places → ⊥)
     → IsWrongAfter (IsGoodScale bits) slot_columns (s ∷ o ∷ u ∷ []) 0
 wrong_step bits s o u narrow never = record {
@@ -143,20 +135,4 @@ wrong_unit bits step places room offset s o u found whole near never = record {
   «none» = λ slot good e. never (subst IsWord (sym (third_of _ _ _ _ _ _ _ _ e)) good.unit);
 }
 
-pub good_scale : (bits step places room : ℕ) (offset : ℤ) (s o u : List ℕ) → StepIs s bits step places → room + step * (2 ^ bits - 1) ≡ 2 ^ 63
-    → OffsetIs o places room offset → IsWord u → AreColumnsOf (IsGoodScale bits) slot_columns (s ∷ o ∷ u ∷ []) (slot_of step offset places u)
-good_scale bits step places room offset s o u found whole near word = record {
-  good = record {
-    step = step;
-    step_is = refl;
-    step_starts = found.says.starts;
-    fits = (let fits = near.says.fits in omega (arith, fits, whole));
-    places = found.says.few;
-    unit = word;
-  };
-  texts_are = ap (λ t. t ∷ o ∷ u ∷ []) found.says.text_is ∙ ap (λ t. scaled_text places (pos step) ∷ t ∷ u ∷ []) near.says.text_is;
-  only = λ slot good e.
-      let its = found.only good.step slot.places (its_step s bits slot good (first_of _ _ _ _ e)) in
-      let far = near.only slot.offset (its_offset o bits room step places slot good whole its.0 its.1 (second_of _ _ _ _ _ _ e)) in
-      same_slot slot (slot_of step offset places u) (good.step_is ∙ ap pos (sym its.0)) (sym far) (sym its.1) (sym (third_of _ _ _ _ _ _ _ _ e));
 }

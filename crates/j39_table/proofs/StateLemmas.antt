@@ -75,10 +75,6 @@ pub states_of : (limit : ℕ) (part : List ℕ) → AreGoodStates limit part →
 states_of limit [] good some = absurd (omega (arith, some))
 states_of limit (b ∷ part) good some = good
 
-pub of_states : (limit : ℕ) (part : List ℕ) → length (states_in part) ≤ 256 → AreStates 0 limit (states_in part) → AreGoodStates limit part
-of_states limit [] few all = tt
-of_states limit (b ∷ part) few all = (few, all)
-
 pub no_states : (limit : ℕ) (part : List ℕ) → length part ≡ 0 → AreGoodStates limit part
 no_states limit [] none = tt
 no_states limit (b ∷ part) none = absurd (omega (arith, none))
@@ -107,9 +103,6 @@ limit_fits (full_field byte low count is_signed slot) good =
 limit_fits (switch_field byte low high) good = omega arith
 limit_fits (text_field part) good = omega arith
 limit_fits (texts_field byte count) good = omega arith
-
-pub starts_all : (limit : ℕ) (states : List (List ℕ)) → RisesTo limit states 0 0
-starts_all limit states = record { on = λ all. all; back = λ all. all; few = omega arith }
 
 pub ends_all : (limit : ℕ) (states : List (List ℕ)) (i least : ℕ) → length states ≤ i → RisesTo limit states i least → AreStates 0 limit states
 ends_all limit states i least past before = before.back (subst (AreStates least limit) (sym (drop_all i states past)) tt)

@@ -312,11 +312,6 @@ module _ (naming : NamingRecord) (holder : ℕ → Option ℕ) (now : ℕ) (plac
 
 -- ---- how many lines there are
 
--- a line, if it is shown
-pub one_if_shown : (b : Bool) (line : Line) → (if b then 1 else 0) ≡ capped (length (if b then line ∷ [] else []))
-one_if_shown true line = refl
-one_if_shown false line = refl
-
 -- the moment, and those in both
 pub counted_all : (c d e n : ℕ) (line : Line) (xs ys : List Line) → c ≡ capped (length xs) → d ≡ capped (length ys) → e ≡ capped (c + d)
     → n ≡ capped (e + 1) → n ≡ capped (length (line ∷ (xs ++ ys)))
