@@ -175,8 +175,6 @@ wrong_scale place bits make s o u fault makes number wrong = record {
   wrong = wrong_after place bits make s o u wrong.count makes number wrong.wrong;
 }
 
-}
-
 -- ---- fields without a scale
 
 -- a step is no dash

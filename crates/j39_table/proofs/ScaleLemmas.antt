@@ -134,5 +134,3 @@ wrong_unit bits step places room offset s o u found whole near never = record {
   agrees = ap (λ t. t ∷ o ∷ []) found.says.text_is ∙ ap (λ t. scaled_text places (pos step) ∷ t ∷ []) near.says.text_is;
   «none» = λ slot good e. never (subst IsWord (sym (third_of _ _ _ _ _ _ _ _ e)) good.unit);
 }
-
-}
