@@ -38,9 +38,10 @@ no frame comes, it stays as it is. A line of faults has the source address (hex)
 NAME, how long ago its last message came, and what `j1939 faults` says of it; that of
 a value the address (with >destination), the NAME, the PGN, the SPN, the value, its
 age by the stamps, how many came in the second before, and what the parameter is
-called. Where a terminal shows it and NO_COLOR isn't set, faults of a controller are
-red while its stop lamp is on, else yellow while its warning lamp is; errors too.
-Lines are cut at --width; where not all fit, the last says how many more there are.";
+called. On a terminal, unless NO_COLOR is set and not empty, faults are red while the
+red stop lamp of their controller is on, else yellow while its amber warning lamp is,
+and errors are yellow. Lines are cut at --width; where not all fit, the last says how
+many more there are.";
 
 const HELP: &str = "\
 At the end the counts go to standard error, as those of `j1939 report`; lines are
@@ -80,7 +81,7 @@ pub(crate) fn command<'a>(alloc: Global) -> Result<Command<'a>, AllocError>
     let command = with_option(alloc, command, "rows", "N", false, help);
     let help = "How many columns it has, 20 to 512; without it, COLUMNS says so, or 80";
     let command = with_option(alloc, command, "width", "N", false, help);
-    let help = "In colours, also where no terminal shows it or NO_COLOR is set";
+    let help = "In colours, also where it is no terminal or NO_COLOR is set";
     let command = with_flag(alloc, command, "colour", help);
     let help = "With the time of the last frame in UTC, as 2023-11-14T22:13:20.250000Z";
     with_log(alloc, with_flag(alloc, command, "utc", help))
