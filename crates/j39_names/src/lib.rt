@@ -11,7 +11,7 @@ mod name_table;
 mod naming;
 mod parameters;
 
-pub use naming::{Kind, Named, Naming, function_by, maker_by};
+pub use naming::{Kind, Named, Naming, function_by, maker_by, own_name};
 
 /// What a parameter is called (J1939-71, J1939-73); `None` where its name isn't known.
 pub fn parameter_name(spn: u32) -> Option<&'static [u8]>

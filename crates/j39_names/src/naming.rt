@@ -132,8 +132,8 @@ pub fn maker_by<'n>(own: &[Named<'n>], code: u16) -> Option<&'n [u8]>
     }
 }
 
-/// What these names call a number, as the first does that is of it.
-fn own_name<'n>(own: &[Named<'n>], kind: Kind, number: u32) -> Option<&'n [u8]>
+/// What names of one's own call a number, as the first does that is of it; `None` where none is.
+pub fn own_name<'n>(own: &[Named<'n>], kind: Kind, number: u32) -> Option<&'n [u8]>
     ensures { option_map (λ name. name.now) result ≡ own_name own.now kind number }
 {
     let named = own.iter().find(|named| named.is_of(kind, number))?;

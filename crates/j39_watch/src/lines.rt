@@ -13,8 +13,7 @@ ghost use Rattle.j39_io.specs.Puts.{Puts};
 ghost use Rattle.j39_io.specs.Turn.{turn};
 ghost use Rattle.j39_listen.specs.Report.{name_text};
 ghost use Rattle.j39_watch.specs.LatestSoFar.{latest_at, latest_row};
-ghost use Rattle.j39_names.specs.Naming.{naming_of, own_name};
-ghost use Rattle.j39_names.specs.declared.naming.Kind.TheVariants.{Parameter};
+ghost use Rattle.j39_names.specs.Naming.{naming_of};
 ghost use Rattle.j39_reports.specs.RowModels.{kept_value};
 ghost use Rattle.j39_watch.specs.NotesSoFar.{size_of};
 ghost use Rattle.j39_watch.specs.Watch.{age_text, column, controller_columns, destination_text, fault_line, is_inside, letter_end, moment_text, more_text, row_shown, state_behind, tenths, value_text_line};
@@ -31,7 +30,7 @@ use j39_frame::{Origin, Stamp};
 use j39_groups::{Slot, put_value};
 use j39_io::backwards::{byte_before, bytes_before, hex_before, number_before, slice_before};
 use j39_io::{DeviceFault, Sink, put_all};
-use j39_names::{Kind, Named, Naming};
+use j39_names::{Kind, Naming, own_name};
 use j39_reports::{StoredValue, scaled_before};
 use j39_rows::moment_text as clock_text;
 
@@ -146,16 +145,8 @@ pub(crate) fn make_value_line(
     push_came(line, latest.came_before(now));
     let value = latest.seen.value.value();
     let (name, state) = naming.groups.called_in(origin.pgn, origin.spn, value);
-    line.push(name_or_dash(own_name(naming.own, origin.spn), name));
+    line.push(name_or_dash(own_name(naming.own, Kind::Parameter, origin.spn), name));
     push_state(line, state);
-}
-
-/// What a parameter is called by one's own names.
-fn own_name<'n>(own: &[Named<'n>], spn: u32) -> Option<&'n [u8]>
-    ensures { option_map (λ name. name.now) result ≡ own_name own.now Parameter spn }
-{
-    let named = own.iter().find(|named| named.is_of(Kind::Parameter, spn))?;
-    Some(named.name)
 }
 
 /// One's own name, or else that of the table; or a dash.
