@@ -24,7 +24,9 @@ use crate::refusal::show;
 use crate::words::{bus_value, format_value, is_set, list_value, log_input};
 use crate::{Argument, FaultsTold, ParseFault, Task, WordText};
 use clap::{ArgMatches, Command};
-use j39_fault_reports::{Choice, FaultCounts, Telling, faults, faults_now};
+use j39_fault_reports::{
+    Choice, CurrentWanted, FaultCounts, FaultsWanted, Telling, Writing, faults, faults_now,
+};
 use j39_faults::Conversion;
 use j39_io::{Sink, Source};
 use j39_listen::RunFault;
@@ -214,7 +216,11 @@ fn run<R: Source, W: Sink>(
     let rows = &options.rows;
     let conversions = versions_in(&options.conversions);
     let filter = rows.asked.filter_given();
-    let spns = slice_of(&rows.asked.spns);
+    let writing = Writing {
+        form: rows.format,
+        naming,
+        spns: slice_of(&rows.asked.spns),
+    };
     let bus = copy_of(&rows.input.bus);
     match options.told {
         FaultsTold::InMessages(telling) => {
@@ -222,30 +228,17 @@ fn run<R: Source, W: Sink>(
                 telling,
                 conversions,
                 filter,
-                spns,
             };
-            faults(
-                alloc,
-                naming,
-                rows.format,
-                choice,
-                source,
-                sink,
-                bus,
-                LOG_LIMIT,
-            )
+            let wanted = FaultsWanted { writing, choice };
+            faults(alloc, wanted, source, sink, bus, LOG_LIMIT)
         }
-        FaultsTold::Now => faults_now(
-            alloc,
-            naming,
-            rows.format,
-            conversions,
-            filter,
-            spns,
-            source,
-            sink,
-            bus,
-            LOG_LIMIT,
-        ),
+        FaultsTold::Now => {
+            let wanted = CurrentWanted {
+                writing,
+                conversions,
+                filter,
+            };
+            faults_now(alloc, wanted, source, sink, bus, LOG_LIMIT)
+        }
     }
 }

@@ -20,10 +20,10 @@ use crate::options::{RowOptions, rows_given, with_rows};
 use crate::seconds::micros_of;
 use crate::{Argument, ParseFault, Spns, Task};
 use clap::{ArgMatches, Command};
-use j39_grid::GridAsked;
+use j39_grid::{GridAsked, GridWanted};
 use j39_groups::Groups;
 use j39_io::{Sink, Source};
-use j39_listen::{Counts, RunFault};
+use j39_listen::{Counts, RunFault, Wanted};
 use std::alloc::{AllocError, Global};
 use std::marker::Model;
 
@@ -211,8 +211,10 @@ fn run<R: Source, W: Sink>(
     let spns = columns_of(&rows.asked.spns);
     let asked = GridAsked::new(rows.format, options.every.micros(), spns).unwrap();
     let filter = rows.asked.filter_given();
+    let wanted = Wanted { groups, filter };
     let bus = copy_of(&rows.input.bus);
-    j39_grid::grid(alloc, groups, filter, asked, source, sink, bus, LOG_LIMIT)
+    let gridded = GridWanted { wanted, asked };
+    j39_grid::grid(alloc, gridded, source, sink, bus, LOG_LIMIT)
 }
 
 /// The parameters of the columns.

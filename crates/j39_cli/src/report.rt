@@ -22,7 +22,7 @@ use crate::{ParseFault, Task};
 use clap::{ArgMatches, Command};
 use j39_groups::Groups;
 use j39_io::{Sink, Source};
-use j39_listen::{Clock, Counts, Format, RunFault, run_filtered};
+use j39_listen::{Clock, Counts, Format, RunFault, Wanted, run_filtered};
 use j39_reports::{report_csv, report_in_utc, report_json};
 use std::alloc::{AllocError, Global};
 
@@ -130,15 +130,14 @@ fn run<R: Source, W: Sink>(
     ensures passed_out { W.is_flushed sink.old ≡ true → W.has_failed sink.new ≡ false → W.is_flushed sink.new ≡ true }
 {
     let filter = options.asked.filter_given();
+    let wanted = Wanted { groups, filter };
     let bus = copy_of(&options.input.bus);
     match options.format {
         Format::Line(Clock::Seconds) => {
-            run_filtered(alloc, groups, filter, source, sink, bus, LOG_LIMIT)
+            run_filtered(alloc, wanted, source, sink, bus, LOG_LIMIT)
         }
-        Format::Line(Clock::Utc) => {
-            report_in_utc(alloc, groups, filter, source, sink, bus, LOG_LIMIT)
-        }
-        Format::Record => report_csv(alloc, groups, filter, source, sink, bus, LOG_LIMIT),
-        Format::Object => report_json(alloc, groups, filter, source, sink, bus, LOG_LIMIT),
+        Format::Line(Clock::Utc) => report_in_utc(alloc, wanted, source, sink, bus, LOG_LIMIT),
+        Format::Record => report_csv(alloc, wanted, source, sink, bus, LOG_LIMIT),
+        Format::Object => report_json(alloc, wanted, source, sink, bus, LOG_LIMIT),
     }
 }

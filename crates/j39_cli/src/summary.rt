@@ -17,7 +17,8 @@ use crate::{ParseFault, Task};
 use clap::{ArgMatches, Command};
 use j39_groups::Groups;
 use j39_io::{Sink, Source};
-use j39_listen::{Counts, RunFault};
+use j39_listen::{Counts, RunFault, Wanted};
+use j39_reports::SummaryWanted;
 use std::alloc::{AllocError, Global};
 
 const ABOUT: &str = "\
@@ -111,14 +112,9 @@ fn run<R: Source, W: Sink>(
 {
     let filter = options.asked.filter_given();
     let bus = copy_of(&options.input.bus);
-    j39_reports::summary(
-        alloc,
-        groups,
-        filter,
-        options.format,
-        source,
-        sink,
-        bus,
-        LOG_LIMIT,
-    )
+    let summed = SummaryWanted {
+        wanted: Wanted { groups, filter },
+        format: options.format,
+    };
+    j39_reports::summary(alloc, summed, source, sink, bus, LOG_LIMIT)
 }

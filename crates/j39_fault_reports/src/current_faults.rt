@@ -12,5 +12,5 @@ pub(crate) mod standing;
 pub use account::take_heard;
 pub use last_active::LastActive;
 pub use last_actives::{LastActives, SOURCES};
-pub use run::faults_now;
+pub use run::{CurrentWanted, faults_now};
 pub use standing::Standing;

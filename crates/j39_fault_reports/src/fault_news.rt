@@ -16,6 +16,7 @@ mod since;
 mod telling;
 
 pub use account::is_of_fault_group;
+pub use form::Writing;
 pub use lines::put_active;
 pub use run::{FaultCounts, faults};
-pub use telling::{Choice, Telling};
+pub use telling::{Choice, FaultsWanted, Telling};

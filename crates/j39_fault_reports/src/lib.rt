@@ -4,5 +4,9 @@
 pub mod current_faults;
 pub mod fault_news;
 
-pub use current_faults::{LastActive, LastActives, SOURCES, Standing, faults_now, take_heard};
-pub use fault_news::{Choice, FaultCounts, Telling, faults, is_of_fault_group, put_active};
+pub use current_faults::{
+    CurrentWanted, LastActive, LastActives, SOURCES, Standing, faults_now, take_heard,
+};
+pub use fault_news::{
+    Choice, FaultCounts, FaultsWanted, Telling, Writing, faults, is_of_fault_group, put_active,
+};

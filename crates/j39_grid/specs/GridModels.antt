@@ -4,12 +4,22 @@ use Rattle.j39_frame.specs.Stamp.{stamp_micros}
 use Rattle.j39_rows.specs.Models.{cell_of}
 use Rattle.j39_rows.specs.Row.{CellRecord}
 use Rattle.j39_grid.specs.Grid.{Asked}
+use Rattle.j39_listen.specs.Chooses.{which_of}
+use Rattle.j39_grid.specs.GridRun.{Subject}
 use Rattle.j39_grid.specs.declared.asked.GridAsked.{GridAsked}
+use Rattle.j39_grid.specs.declared.asked.GridWanted.{GridWanted}
 use Rattle.j39_grid.specs.declared.place.Place.{Place}
 use Rattle.j39_grid.specs.declared.rows.Rows.{Rows}
 
 abbrev pub asked_of : GridAsked → Asked
 asked_of asked = record { form = asked.form; every = asked.every; spns = asked.spns.now }
+
+abbrev pub subject_of : GridWanted → Subject
+subject_of gridded = record {
+  asked = asked_of gridded.asked;
+  which = which_of gridded.wanted.filter;
+  rows = gridded.wanted.groups.now;
+}
 
 -- a parameter, and what stands in its column
 abbrev pub place_of : Place → ℕ × CellRecord

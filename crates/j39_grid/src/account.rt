@@ -17,23 +17,23 @@ ghost use Rattle.j39_listen.specs.Output.{nothing};
 ghost use Rattle.j39_listen.specs.Ran.{PassesOn, Ran};
 ghost use Rattle.j39_listen.specs.declared.account.LineFault.TheVariants as line_fault;
 ghost use Rattle.j39_grid.specs.Grid.{names_text};
-ghost use Rattle.j39_grid.specs.GridModels.{asked_of, rows_of};
+ghost use Rattle.j39_grid.specs.GridModels.{asked_of, rows_of, subject_of};
 ghost use Rattle.j39_grid.specs.GridRun.{MakesGrid, MakesRows, Subject};
 ghost use Rattle.j39_grid.specs.GridSoFar.{HasGridded, NotesFrame, StopsFrame, kept_of, rows_behind, text_behind};
 
-use crate::asked::GridAsked;
+use crate::asked::GridWanted;
 use crate::head::put_names;
 use crate::rows::Rows;
 use j39_frame::Frame;
 use j39_groups::{Groups, is_network_group};
 use j39_io::{DeviceFault, Sink, Source};
 use j39_listen::{
-    Account, Chooser, Counts, Filter, Format, Heard, LineFault, Listener, Made, RunFault, run_over,
+    Account, Chooser, Counts, Format, Heard, LineFault, Listener, Made, RunFault, Wanted, run_over,
 };
 use j39_log::Bus;
 use std::alloc::{AllocError, Global};
 
-/// Writes the grid of a log of at most `limit` bytes by a table of parameters: a line, a record of comma-separated values
+/// Writes the grid of a log of at most `limit` bytes that tells what is wanted: a line, a record of comma-separated values
 /// (RFC 4180), or an object (RFC 8259), for each span of time in which one of the parameters that are asked for has a value that
 /// the filter takes. It has the moment at which the span begins, and the last value of each in it, but no text. A span whose
 /// stamps come again, as in a log out of order, has a row again. The names of the columns of records are written before the
@@ -41,9 +41,7 @@ use std::alloc::{AllocError, Global};
 /// Without a bus it is that of the first frame in the log.
 pub fn grid<R: Source, W: Sink>(
     alloc: Global,
-    groups: &Groups<'_>,
-    filter: Option<Filter<'_>>,
-    asked: GridAsked<'_>,
+    gridded: GridWanted<'_, '_>,
     source: &mut R,
     sink: &mut W,
     bus: Option<Bus>,
@@ -51,14 +49,14 @@ pub fn grid<R: Source, W: Sink>(
 ) -> Result<Counts, RunFault>
     // What the run promises is `Ran`: what is written is the grid of what the filter takes of the log's report, and nothing
     // else. Memory is wanted only at a frame of the log that announces a message.
-    ensures ran { Ran (MakesGrid (record { asked = asked_of asked.entry; which = which_of filter.entry; rows = groups.now })) AsksForBoxes
-        bus limit result (turn R.remaining R.has_failed source.old source.new) (turn W.written W.has_failed sink.old sink.new) }
+    ensures ran { Ran (MakesGrid (subject_of gridded.entry)) AsksForBoxes bus limit result
+        (turn R.remaining R.has_failed source.old source.new) (turn W.written W.has_failed sink.old sink.new) }
 
     // What was written is passed on at the end, and before each read, the names of the columns before the first.
-    ensures flushed { PassesOn result (begins_flushed asked.entry.form (W.is_flushed sink.old)) (W.is_flushed sink.new) }
+    ensures flushed { PassesOn result (begins_flushed gridded.entry.asked.form (W.is_flushed sink.old)) (W.is_flushed sink.new) }
 {
-    let account = GridAccount::new(alloc, groups, filter, asked);
-    match asked.form {
+    let account = GridAccount::new(alloc, gridded);
+    match gridded.asked.form {
         Format::Line(_) => run_over(account, source, sink, bus, limit),
         Format::Record => run_named(account, source, sink, bus, limit),
         Format::Object => run_over(account, source, sink, bus, limit),
@@ -96,19 +94,15 @@ pub(crate) struct GridAccount<'g, 't> {
 
 impl<'g, 't> GridAccount<'g, 't> {
     /// The grid of no frames.
-    fn new(
-        alloc: Global,
-        groups: &'g Groups<'t>,
-        filter: Option<Filter<'g>>,
-        asked: GridAsked<'g>,
-    ) -> GridAccount<'g, 't>
-        ensures { HasGridded (record { asked = asked_of asked.entry; which = which_of filter.entry; rows = groups.entry.now }) result [] nothing }
+    fn new(alloc: Global, gridded: GridWanted<'g, 't>) -> GridAccount<'g, 't>
+        ensures { HasGridded (subject_of gridded.entry) result [] nothing }
     {
+        let Wanted { groups, filter } = gridded.wanted;
         GridAccount {
             groups,
             chooser: Chooser::new(filter),
             listener: Listener::new(alloc),
-            rows: Rows::new(asked),
+            rows: Rows::new(gridded.asked),
             messages: 0,
         }
     }

@@ -3,7 +3,7 @@ ghost use Rattle.std.specs.Prelude.{◌≡◌, ◌≤◌, ◌↔◌, IfSome, IsS
 ghost use Rattle.j39_frame.specs.Stamp.{stamp_micros};
 
 use j39_frame::Stamp;
-use j39_listen::Format;
+use j39_listen::{Format, Wanted};
 
 /// The most columns of a grid (own).
 pub const COLUMNS: usize = 32;
@@ -40,4 +40,11 @@ impl<'a> GridAsked<'a> {
     {
         Stamp::new(stamp.micros() / self.every * self.every).unwrap()
     }
+}
+
+/// What a grid is to tell, in which spans and columns.
+#[derive(Clone, Copy)]
+pub struct GridWanted<'g, 't> {
+    pub wanted: Wanted<'g, 't>,
+    pub asked: GridAsked<'g>,
 }

@@ -9,4 +9,4 @@ mod places;
 mod rows;
 
 pub use account::grid;
-pub use asked::{COLUMNS, GridAsked};
+pub use asked::{COLUMNS, GridAsked, GridWanted};

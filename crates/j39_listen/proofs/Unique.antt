@@ -3,10 +3,8 @@ use Rattle.j39_transport.proofs.Taken.{whole_ends}
 use Rattle.j39_listen.proofs.Reported.{not_single, packet_group, reported_leaves}
 use Rattle.j39_transport.proofs.Unique.{one_message}
 use Rattle.j39_address.proofs.OrderLemmas.{same_rising}
-
 use Rattle.j39_listen.specs.Report.{IsReport}
 use Rattle.std.proofs.Common.{◌≡◌, ◌⊎◌, ℕ, zero, suc, ◌+◌, Bool, true, List, [], ◌∷◌, ◌++◌, map, length, Option, Some, None, refl, sym, ap, ◌∙◌, subst, inl, inr, flat_map, arith, append-nil, append_assoc, length-append}
-
 use Rattle.j39_address.proofs.HolderLemmas.{same_holder}
 use Rattle.j39_address.specs.Claim.{Claim, claims_of}
 use Rattle.j39_address.specs.Holder.{IsHolder}

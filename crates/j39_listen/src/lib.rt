@@ -20,6 +20,7 @@ mod report_lines;
 mod report_runs;
 mod roles;
 mod running;
+mod wanted;
 
 pub use account::{Account, LineFault};
 pub use answers::answer;
@@ -35,3 +36,4 @@ pub use report::Report;
 pub use report_runs::{run, run_filtered, run_with};
 pub use roles::{Role, Roles};
 pub use running::{RunFault, run_keeping, run_over};
+pub use wanted::Wanted;

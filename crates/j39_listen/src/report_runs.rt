@@ -12,10 +12,10 @@ ghost use Rattle.j39_listen.specs.Run.{WritesAsked, WritesPublished, WritesWhole
 ghost use Rattle.j39_listen.specs.declared.running.RunFault.TheVariants.{Read};
 
 use crate::Counts;
-use crate::filter::Filter;
 use crate::report::Report;
 use crate::report_lines::Pen;
 use crate::running::{RunFault, run_over};
+use crate::wanted::Wanted;
 use j39_groups::Groups;
 use j39_io::{Sink, Source};
 use j39_log::Bus;
@@ -80,15 +80,15 @@ pub fn run_with<R: Source, W: Sink>(
     ensures kept_up { result ≡ Err Read → WritesWholeLines (MakesReport groups.now) bus
         (R.remaining source.old) (R.remaining source.new) (W.written sink.old) (W.written sink.new) }
 {
-    run_filtered(alloc, groups, None, source, sink, bus, limit)
+    let filter = None;
+    run_filtered(alloc, Wanted { groups, filter }, source, sink, bus, limit)
 }
 
-/// Writes the report of a log of at most `limit` bytes by a table of parameters, kept to the entries that a filter takes; whole
-/// if none is given. Without a bus it is that of the first frame in the log.
+/// Writes the report of a log of at most `limit` bytes that tells what is wanted: the entries of a
+/// table that a filter takes, all of them if none is given. Without a bus it is that of the first frame in the log.
 pub fn run_filtered<R: Source, W: Sink>(
     alloc: Global,
-    groups: &Groups<'_>,
-    filter: Option<Filter<'_>>,
+    wanted: Wanted<'_, '_>,
     source: &mut R,
     sink: &mut W,
     bus: Option<Bus>,
@@ -96,25 +96,26 @@ pub fn run_filtered<R: Source, W: Sink>(
 ) -> Result<Counts, RunFault>
     // What the run promises is `Ran`: what is written is what the filter takes of the report of the log, and nothing else.
     // Memory is wanted only at a frame of the log that announces a message.
-    ensures ran { Ran (MakesFiltered groups.now (which_of filter.entry)) AsksForBoxes bus limit result
+    ensures ran { Ran (MakesFiltered wanted.entry.groups.now (which_of wanted.entry.filter)) AsksForBoxes bus limit result
         (turn R.remaining R.has_failed source.old source.new) (turn W.written W.has_failed sink.old sink.new) }
 
     // The headline, where nothing is asked for: of what publishers sent, its lines under their addresses are exactly the values
     // published, but for the messages that lost a packet.
-    ensures published { which_of filter.entry ≡ no_filter → OnOk result (IfSome (R.remaining source.old)
-        (λ log. WritesPublished groups.now bus log (W.written sink.old) (W.written sink.new))) }
+    ensures published { which_of wanted.entry.filter ≡ no_filter → OnOk result (IfSome (R.remaining source.old)
+        (λ log. WritesPublished wanted.entry.groups.now bus log (W.written sink.old) (W.written sink.new))) }
 
     // And by a filter: they are exactly those of these values that it takes.
     ensures asked { OnOk result (IfSome (R.remaining source.old) (λ log. WritesAsked [] (λ rows. entry_text)
-        (which_of filter.entry) groups.now bus log (W.written sink.old) (W.written sink.new))) }
+        (which_of wanted.entry.filter) wanted.entry.groups.now bus log (W.written sink.old) (W.written sink.new))) }
 
     // What was written is passed on at the end, and before each read.
     ensures flushed { PassesOn result (W.is_flushed sink.old) (W.is_flushed sink.new) }
 
     // Where a read ends the run, all that the whole lines before it make was written.
-    ensures kept_up { result ≡ Err Read → WritesWholeLines (MakesFiltered groups.now (which_of filter.entry)) bus
+    ensures kept_up { result ≡ Err Read → WritesWholeLines (MakesFiltered wanted.entry.groups.now (which_of wanted.entry.filter)) bus
         (R.remaining source.old) (R.remaining source.new) (W.written sink.old) (W.written sink.new) }
 {
+    let Wanted { groups, filter } = wanted;
     let pen = Pen::new(groups);
     let report = Report::new(alloc, groups, filter, pen);
     run_over(report, source, sink, bus, limit)

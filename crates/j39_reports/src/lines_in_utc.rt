@@ -19,7 +19,7 @@ use j39_groups::{Groups, HEAD, LINES};
 use j39_io::backwards::{byte_before, bytes_before, hex_before};
 use j39_io::vectors::hex_of_eight;
 use j39_io::{DeviceFault, Sink, Source};
-use j39_listen::{Counts, EntryForm, Filter, Heard, Report, RunFault, run_over};
+use j39_listen::{Counts, EntryForm, Heard, Report, RunFault, Wanted, run_over};
 use j39_log::Bus;
 use std::alloc::Global;
 
@@ -101,8 +101,7 @@ fn name_before(out: &mut [u8], end: usize, name: Option<Name>) -> usize
 /// value that a filter takes; for each if none is given. Without a bus it is that of the first frame in the log.
 pub fn report_in_utc<R: Source, W: Sink>(
     alloc: Global,
-    groups: &Groups<'_>,
-    filter: Option<Filter<'_>>,
+    wanted: Wanted<'_, '_>,
     source: &mut R,
     sink: &mut W,
     bus: Option<Bus>,
@@ -110,20 +109,21 @@ pub fn report_in_utc<R: Source, W: Sink>(
 ) -> Result<Counts, RunFault>
     // What the run promises is `Ran`: what is written is such lines of what the filter takes of the log's report, and nothing
     // else. Memory is wanted only at a frame of the log that announces a message.
-    ensures ran { Ran (MakesInUtc groups.now (which_of filter.entry)) AsksForBoxes bus limit result
+    ensures ran { Ran (MakesInUtc wanted.entry.groups.now (which_of wanted.entry.filter)) AsksForBoxes bus limit result
         (turn R.remaining R.has_failed source.old source.new) (turn W.written W.has_failed sink.old sink.new) }
 
     // Of what publishers sent, they are exactly those of the values published that the filter takes.
     ensures asked { OnOk result (IfSome (R.remaining source.old) (λ log. WritesAsked [] (λ rows. entry_in_utc)
-        (which_of filter.entry) groups.now bus log (W.written sink.old) (W.written sink.new))) }
+        (which_of wanted.entry.filter) wanted.entry.groups.now bus log (W.written sink.old) (W.written sink.new))) }
 
     // What was written is passed on at the end, and before each read.
     ensures flushed { PassesOn result (W.is_flushed sink.old) (W.is_flushed sink.new) }
 
     // Where a read ends the run, all that the whole lines before it make was written.
-    ensures kept_up { result ≡ Err Read → WritesWholeLines (MakesInUtc groups.now (which_of filter.entry)) bus
+    ensures kept_up { result ≡ Err Read → WritesWholeLines (MakesInUtc wanted.entry.groups.now (which_of wanted.entry.filter)) bus
         (R.remaining source.old) (R.remaining source.new) (W.written sink.old) (W.written sink.new) }
 {
+    let Wanted { groups, filter } = wanted;
     let pen = UtcPen::new(groups);
     let report = Report::new(alloc, groups, filter, pen);
     run_over(report, source, sink, bus, limit)

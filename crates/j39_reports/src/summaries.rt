@@ -9,7 +9,7 @@ mod rows;
 mod statistics;
 mod stored_value;
 
-pub use account::summary;
+pub use account::{SummaryWanted, summary};
 pub use guesses::{Guesses, again};
 pub use statistics::Sample;
 pub use stored_value::StoredValue;

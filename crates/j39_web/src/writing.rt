@@ -7,13 +7,13 @@ ghost use Rattle.j39_web.specs.Writings.{asks, makes};
 
 use crate::points::SeriesOrigin;
 use crate::series::series;
-use j39_fault_reports::{Choice, FaultCounts, Telling, faults};
+use j39_fault_reports::{Choice, FaultCounts, FaultsWanted, Telling, faults};
 use j39_groups::Groups;
 use j39_io::{Sink, Source};
-use j39_listen::{Clock, Counts, Format, RunFault, run_with};
+use j39_listen::{Clock, Counts, Format, RunFault, Wanted, run_with};
 use j39_log::Bus;
 use j39_names::Naming;
-use j39_reports::{report_csv, summary};
+use j39_reports::{SummaryWanted, report_csv, summary};
 use std::alloc::Global;
 
 /// What is written of a log by a table.
@@ -45,29 +45,29 @@ impl Writing {
         ensures { Ran (makes self groups.now) (asks self groups.now) bus limit result
             (turn R.remaining R.has_failed source.old source.new) (turn W.written W.has_failed sink.old sink.new) }
     {
+        let filter = None;
+        let wanted = Wanted { groups, filter };
         match self {
             Writing::Report => run_with(alloc, groups, source, sink, bus, limit),
-            Writing::Records => report_csv(alloc, groups, None, source, sink, bus, limit),
-            Writing::Summary => summary(
-                alloc,
-                groups,
-                None,
-                Format::Record,
-                source,
-                sink,
-                bus,
-                limit,
-            ),
+            Writing::Records => report_csv(alloc, wanted, source, sink, bus, limit),
+            Writing::Summary => {
+                let format = Format::Record;
+                let summed = SummaryWanted { wanted, format };
+                summary(alloc, summed, source, sink, bus, limit)
+            }
             Writing::Faults => {
+                let writing = j39_fault_reports::Writing {
+                    form: Format::Line(Clock::Seconds),
+                    naming: &Naming::by_table(groups),
+                    spns: None,
+                };
                 let choice = Choice {
                     telling: Telling::News,
                     conversions: &[],
-                    filter: None,
-                    spns: None,
+                    filter,
                 };
-                let naming = Naming::by_table(groups);
-                let format = Format::Line(Clock::Seconds);
-                counts_of(faults(alloc, &naming, format, choice, source, sink, bus, limit))
+                let told = FaultsWanted { writing, choice };
+                counts_of(faults(alloc, told, source, sink, bus, limit))
             }
             Writing::Series(of) => series(alloc, groups, of, source, sink, bus, limit),
         }

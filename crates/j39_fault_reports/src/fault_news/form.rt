@@ -7,11 +7,12 @@ use j39_faults::{Code, Lamps, Parameter, State};
 use j39_listen::Format;
 use j39_names::Naming;
 
-/// In which form, by which names, and of which parameters alone, where some are asked for.
+/// In which form faults are written, by which names, and of which parameters.
 #[derive(Clone, Copy)]
-pub(crate) struct Writing<'g, 't> {
+pub struct Writing<'g, 't> {
     pub form: Format,
     pub naming: &'g Naming<'g, 't>,
+    /// Of which parameters (SPN) alone codes are told; one whose number isn't known by any that it may have. `None` for all.
     pub spns: Option<&'g [u32]>,
 }
 

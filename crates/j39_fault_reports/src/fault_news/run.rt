@@ -7,19 +7,15 @@ ghost use Rattle.j39_fault_reports.specs.Broken.{ToldFaults, counts_in};
 ghost use Rattle.j39_fault_reports.specs.FaultAsking.{AsksForFaults};
 ghost use Rattle.j39_fault_reports.specs.FaultRun.{MakesFaults};
 ghost use Rattle.j39_fault_reports.specs.FaultRows.{fault_columns};
-ghost use Rattle.j39_fault_reports.specs.Faults.{manner_in};
-ghost use Rattle.j39_fault_reports.specs.FaultsSoFar.{spns_now};
-ghost use Rattle.j39_names.specs.Naming.{naming_of};
+ghost use Rattle.j39_fault_reports.specs.FaultsSoFar.{manner_of};
 ghost use Rattle.j39_listen.specs.Chooses.{which_of};
 ghost use Rattle.j39_fault_reports.specs.News.{chosen_of};
 
 use crate::fault_news::account::FaultNews;
-use crate::fault_news::form::Writing;
-use crate::fault_news::telling::{Choice, Telling};
+use crate::fault_news::telling::{FaultsWanted, Telling};
 use j39_io::{Sink, Source};
 use j39_listen::{Counts, Format, RunFault, run_headed_keeping, run_keeping};
 use j39_log::Bus;
-use j39_names::Naming;
 use std::alloc::Global;
 
 /// The columns of records of codes.
@@ -47,9 +43,7 @@ pub struct FaultCounts {
 /// log is read. Without a bus it is that of the first frame in the log.
 pub fn faults<R: Source, W: Sink>(
     alloc: Global,
-    naming: &Naming<'_, '_>,
-    format: Format,
-    choice: Choice<'_>,
+    wanted: FaultsWanted<'_, '_>,
     source: &mut R,
     sink: &mut W,
     bus: Option<Bus>,
@@ -58,15 +52,16 @@ pub fn faults<R: Source, W: Sink>(
     // What the run promises is `Ran`: what is written is the faults that are told in the frames of the log, and nothing
     // else. Memory is wanted only at a frame of the log that announces a message, or at the first message of faults of
     // its group from an address between the moments. And it counts which messages of codes were broken.
-    ensures told { ToldFaults (MakesFaults format (manner_in format (naming_of naming.now) (spns_now choice.entry.spns)) (chosen_of choice.entry)) (AsksForFaults choice.entry.telling (which_of choice.entry.filter)) bus limit result
+    ensures told { ToldFaults (MakesFaults wanted.entry.writing.form (manner_of wanted.entry.writing) (chosen_of wanted.entry.choice))
+        (AsksForFaults wanted.entry.choice.telling (which_of wanted.entry.choice.filter)) bus limit result
         (turn R.remaining R.has_failed source.old source.new) (turn W.written W.has_failed sink.old sink.new) }
 
     // What was written is passed on at the end, and before each read, the names of the columns before the first.
-    ensures flushed { PassesOn result (begins_flushed format (W.is_flushed sink.old)) (W.is_flushed sink.new) }
+    ensures flushed { PassesOn result (begins_flushed wanted.entry.writing.form (W.is_flushed sink.old)) (W.is_flushed sink.new) }
 {
-    let (form, spns) = (format, choice.spns);
-    let account = FaultNews::new(alloc, Writing { form, naming, spns }, choice);
-    match format {
+    let FaultsWanted { writing, choice } = wanted;
+    let account = FaultNews::new(alloc, writing, choice);
+    match writing.form {
         Format::Line(_) => {
             let (ran, news) = run_keeping(account, source, sink, bus, limit);
             counted(ran, news.broken())

@@ -1,4 +1,5 @@
 //! What is told of messages of faults.
+use crate::fault_news::form::Writing;
 use j39_faults::Conversion;
 use j39_listen::Filter;
 
@@ -16,8 +17,8 @@ pub enum Telling {
     Changes,
 }
 
-/// What is told of messages of faults, by which versions of the conversion the SPNs of controllers are read, of which messages
-/// and of which parameters it is told.
+/// What is told of messages of faults, by which versions of the conversion the SPNs of controllers are read, and of which messages
+/// it is told.
 #[derive(Clone, Copy, Debug)]
 pub struct Choice<'c> {
     pub telling: Telling,
@@ -25,6 +26,11 @@ pub struct Choice<'c> {
     pub conversions: &'c [Conversion],
     /// Which messages are told; what was told before, all of them say. `None` for all.
     pub filter: Option<Filter<'c>>,
-    /// Of which parameters (SPN) alone codes are told; one whose number isn't known by any that it may have. `None` for all.
-    pub spns: Option<&'c [u32]>,
+}
+
+/// What a run is to tell of messages of faults.
+#[derive(Clone, Copy)]
+pub struct FaultsWanted<'c, 't> {
+    pub writing: Writing<'c, 't>,
+    pub choice: Choice<'c>,
 }

@@ -11,9 +11,8 @@ ghost use Rattle.j39_reports.specs.EntryText.{entry_record, header_text};
 ghost use Rattle.j39_reports.specs.ReportRecords.{MakesRecords};
 
 use crate::report_records::records::RecordForm;
-use j39_groups::Groups;
 use j39_io::{Sink, Source};
-use j39_listen::{Counts, Filter, Report, RunFault, run_headed};
+use j39_listen::{Counts, Report, RunFault, Wanted, run_headed};
 use j39_log::Bus;
 use std::alloc::Global;
 
@@ -26,8 +25,7 @@ const HEADER: &[u8] =
 /// that of the first frame in the log.
 pub fn report_csv<R: Source, W: Sink>(
     alloc: Global,
-    groups: &Groups<'_>,
-    filter: Option<Filter<'_>>,
+    wanted: Wanted<'_, '_>,
     source: &mut R,
     sink: &mut W,
     bus: Option<Bus>,
@@ -35,20 +33,21 @@ pub fn report_csv<R: Source, W: Sink>(
 ) -> Result<Counts, RunFault>
     // What the run promises is `Ran`: what is written is the header and the records of what the filter takes of the log's
     // report, and nothing else. Memory is wanted only at a frame of the log that announces a message.
-    ensures ran { Ran (Headed header_text (MakesRecords groups.now (which_of filter.entry))) AsksForBoxes bus limit result
+    ensures ran { Ran (Headed header_text (MakesRecords wanted.entry.groups.now (which_of wanted.entry.filter))) AsksForBoxes bus limit result
         (turn R.remaining R.has_failed source.old source.new) (turn W.written W.has_failed sink.old sink.new) }
 
     // Of what publishers sent, they are exactly those of the values published that the filter takes.
     ensures asked { OnOk result (IfSome (R.remaining source.old) (λ log. WritesAsked header_text entry_record
-        (which_of filter.entry) groups.now bus log (W.written sink.old) (W.written sink.new))) }
+        (which_of wanted.entry.filter) wanted.entry.groups.now bus log (W.written sink.old) (W.written sink.new))) }
 
     // What was written is passed on at the end, and before each read, the header before the first.
     ensures flushed { PassesOn result true (W.is_flushed sink.new) }
 
     // Where a read ends the run, the header and all that the whole lines before it make was written.
-    ensures kept_up { result ≡ Err Read → WritesWholeLines (Headed header_text (MakesRecords groups.now (which_of filter.entry)))
+    ensures kept_up { result ≡ Err Read → WritesWholeLines (Headed header_text (MakesRecords wanted.entry.groups.now (which_of wanted.entry.filter)))
         bus (R.remaining source.old) (R.remaining source.new) (W.written sink.old) (W.written sink.new) }
 {
+    let Wanted { groups, filter } = wanted;
     let form = RecordForm::new(groups);
     let report = Report::new(alloc, groups, filter, form);
     run_headed(HEADER, report, source, sink, bus, limit)

@@ -27,21 +27,26 @@ use j39_frame::{Frame, Id};
 use j39_groups::Groups;
 use j39_io::{DeviceFault, Sink, Source};
 use j39_listen::{
-    Account, Chooser, Counts, Filter, Format, LineFault, Listener, Made, Roles, RunFault,
+    Account, Chooser, Counts, Format, LineFault, Listener, Made, Roles, RunFault, Wanted,
     run_headed, run_over,
 };
 use j39_log::Bus;
 use std::alloc::{AllocError, Global};
 
-/// Writes the summary of a log of at most `limit` bytes by a table of parameters: a line, a record of
+/// What a summary is to tell, and in which form.
+#[derive(Clone, Copy)]
+pub struct SummaryWanted<'g, 't> {
+    pub wanted: Wanted<'g, 't>,
+    pub format: Format,
+}
+
+/// Writes the summary of a log of at most `limit` bytes of what is wanted: a line, a record of
 /// comma-separated values (RFC 4180), or an object (RFC 8259), for each parameter that a controller on the bus reported, in the order of their
 /// first values. The names of the columns of records are written before the log is read. Without a bus it is that of
 /// the first frame in the log.
 pub fn summary<R: Source, W: Sink>(
     alloc: Global,
-    groups: &Groups<'_>,
-    filter: Option<Filter<'_>>,
-    format: Format,
+    summed: SummaryWanted<'_, '_>,
     source: &mut R,
     sink: &mut W,
     bus: Option<Bus>,
@@ -51,14 +56,15 @@ pub fn summary<R: Source, W: Sink>(
     // without one, and nothing else. Memory is
     // wanted only at a frame that announces a message, and at one where a message is heard that has a value of a
     // parameter without a row, or a text, or a parameter that is not available for the first time.
-    ensures ran { Ran (MakesSummary format (which_of filter.entry) groups.now) (AsksForRows (which_of filter.entry) groups.now) bus limit result
+    ensures ran { Ran (MakesSummary summed.entry.format (which_of summed.entry.wanted.filter) summed.entry.wanted.groups.now)
+        (AsksForRows (which_of summed.entry.wanted.filter) summed.entry.wanted.groups.now) bus limit result
         (turn R.remaining R.has_failed source.old source.new) (turn W.written W.has_failed sink.old sink.new) }
 
     // What was written is passed on at the end, and before each read, the names of the columns before the first.
-    ensures flushed { PassesOn result (begins_flushed format (W.is_flushed sink.old)) (W.is_flushed sink.new) }
+    ensures flushed { PassesOn result (begins_flushed summed.entry.format (W.is_flushed sink.old)) (W.is_flushed sink.new) }
 {
-    let account = SummaryAccount::new(alloc, groups, filter, format);
-    match format {
+    let account = SummaryAccount::new(alloc, summed);
+    match summed.format {
         Format::Line(_) => run_over(account, source, sink, bus, limit),
         Format::Record => run_headed(COLUMNS, account, source, sink, bus, limit),
         Format::Object => run_over(account, source, sink, bus, limit),
@@ -82,17 +88,13 @@ pub(crate) struct SummaryAccount<'g, 't> {
 
 impl<'g, 't> SummaryAccount<'g, 't> {
     /// The summary of no frames.
-    pub fn new(
-        alloc: Global,
-        groups: &'g Groups<'t>,
-        filter: Option<Filter<'g>>,
-        form: Format,
-    ) -> SummaryAccount<'g, 't>
-        ensures { HasSummed form (which_of filter.entry) groups.entry.now result [] nothing }
+    pub fn new(alloc: Global, summed: SummaryWanted<'g, 't>) -> SummaryAccount<'g, 't>
+        ensures { HasSummed summed.entry.format (which_of summed.entry.wanted.filter) summed.entry.wanted.groups.now result [] nothing }
     {
+        let Wanted { groups, filter } = summed.wanted;
         SummaryAccount {
             roles: Roles::new(groups),
-            form,
+            form: summed.format,
             chooser: Chooser::new(filter),
             listener: Listener::new(alloc),
             rows: Rows::new(alloc),

@@ -16,12 +16,12 @@ use Rattle.j39_listen.proofs.Written.{asked_of_log, tells_published}
 use Rattle.j39_listen.proofs.report_runs.run_filtered.Goals as goal
 
 pub returns-clause-ran : goal.returns-clause-ran
-returns-clause-ran g c = c.run_over.ensures.ran (record { rows = c.args.groups.now; which = which_of c.args.filter })
-    (filtered_of (λ groups. entry_text) c.args.groups.now (which_of c.args.filter) 0 []) (λ name. c.new-report.ensures) refl
+returns-clause-ran g c = c.run_over.ensures.ran (record { rows = c.args.wanted.groups.now; which = which_of c.args.wanted.filter })
+    (filtered_of (λ groups. entry_text) c.args.wanted.groups.now (which_of c.args.wanted.filter) 0 []) (λ name. c.new-report.ensures) refl
 
 pub returns-clause-published : goal.returns-clause-published
 returns-clause-published g c none =
-    let groups = c.args.groups.now in
+    let groups = c.args.wanted.groups.now in
     let run : Making → Type 0 = λ making. Ran making AsksForBoxes c.args.bus c.args.limit c.run_over.result
     (turn g.R.Source.remaining g.R.Source.has_failed c.args.source.now c.run_over.new.source)
     (turn g.W.Sink.written g.W.Sink.has_failed c.args.sink.now c.run_over.new.sink) in
@@ -31,11 +31,11 @@ returns-clause-published g c none =
 
 pub returns-clause-asked : goal.returns-clause-asked
 returns-clause-asked g c = if_ok c.run_over.result _ _
-    (λ counts writes. asked_of_log (λ rows. entry_text) (which_of c.args.filter) c.args.groups.now c.args.bus _ counts _ _ writes) (returns-clause-ran g c).writes
+    (λ counts writes. asked_of_log (λ rows. entry_text) (which_of c.args.wanted.filter) c.args.wanted.groups.now c.args.bus _ counts _ _ writes) (returns-clause-ran g c).writes
 
 pub returns-clause-kept_up : goal.returns-clause-kept_up
 returns-clause-kept_up g c = λ read.
-    let subject : Subject = record { rows = c.args.groups.now; which = which_of c.args.filter } in
-    whole_lines (λ bus. HasReported (λ groups. entry_text) (λ (pen : Pen). pen.groups.now) subject) (MakesFiltered c.args.groups.now (which_of c.args.filter)) (reported_makes (λ groups. entry_text) subject (λ (pen : Pen). pen.groups.now))
+    let subject : Subject = record { rows = c.args.wanted.groups.now; which = which_of c.args.wanted.filter } in
+    whole_lines (λ bus. HasReported (λ groups. entry_text) (λ (pen : Pen). pen.groups.now) subject) (MakesFiltered c.args.wanted.groups.now (which_of c.args.wanted.filter)) (reported_makes (λ groups. entry_text) subject (λ (pen : Pen). pen.groups.now))
     c.args.bus _ _ _ _
-    (c.run_over.ensures.kept_up read subject (filtered_of (λ groups. entry_text) c.args.groups.now (which_of c.args.filter) 0 []) (λ name. c.new-report.ensures) refl)
+    (c.run_over.ensures.kept_up read subject (filtered_of (λ groups. entry_text) c.args.wanted.groups.now (which_of c.args.wanted.filter) 0 []) (λ name. c.new-report.ensures) refl)
