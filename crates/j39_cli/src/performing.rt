@@ -15,6 +15,7 @@ use j39_groups::Groups;
 use j39_io::{DeviceFault, Sink, Source};
 use j39_listen::RunFault;
 use j39_names::Naming;
+use j39_survey::SurveyWanted;
 use std::alloc::Global;
 
 /// Performs a task by the built-in table of parameters.
@@ -134,7 +135,9 @@ fn perform_below<R: Source, W: Sink, E: Sink>(
         Task::Cut(outgoing) => show_text(outgoing.lines().as_slice(), sink, err),
         Task::Groups(_) => groups::perform(groups, sink, err),
         Task::Survey { input, format, .. } => {
-            survey::perform(alloc, *format, naming, &input.bus, source, sink, err)
+            let form = *format;
+            let wanted = SurveyWanted { form, naming };
+            survey::perform(alloc, wanted, &input.bus, source, sink, err)
         }
         Task::Watch(options) => watch::perform(alloc, naming, options, source, sink, err),
     }

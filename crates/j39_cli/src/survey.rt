@@ -13,9 +13,8 @@ use crate::words::{bus_value, format_value, log_input};
 use crate::{ParseFault, Task, WordText};
 use clap::{ArgMatches, Command};
 use j39_io::{Sink, Source};
-use j39_listen::Format;
 use j39_log::Bus;
-use j39_names::Naming;
+use j39_survey::SurveyWanted;
 use std::alloc::{AllocError, Global};
 
 const ABOUT: &str = "\
@@ -69,17 +68,16 @@ pub(crate) fn task<'a>(alloc: Global, given: &ArgMatches<'a>) -> Result<Task<'a>
     }
 }
 
-/// Performs it by these names and their table of parameters: the survey goes to `sink`, what failed to `err`.
+/// Performs it: the survey goes to `sink`, what failed to `err`.
 pub(crate) fn perform<R: Source, W: Sink, E: Sink>(
     alloc: Global,
-    format: Format,
-    naming: &Naming<'_, '_>,
+    wanted: SurveyWanted<'_, '_>,
     bus: &Option<Bus>,
     source: &mut R,
     sink: &mut W,
     err: &mut E,
 ) -> u8
-    ensures survey { IsSurvey format bus.now (naming_of naming.now) result
+    ensures survey { IsSurvey wanted.entry.form bus.now (naming_of wanted.entry.naming.now) result
         (turn R.remaining R.has_failed source.old source.new)
         (turn W.written W.has_failed sink.old sink.new)
         (turn E.written E.has_failed err.old err.new) }
@@ -88,7 +86,7 @@ pub(crate) fn perform<R: Source, W: Sink, E: Sink>(
     ensures passed_on { result ≡ 1 → E.has_failed err.new ≡ false → E.is_flushed err.new ≡ true }
 {
     let bus = copy_of(bus);
-    match j39_survey::survey(alloc, format, naming, source, sink, bus, LOG_LIMIT) {
+    match j39_survey::survey(alloc, wanted, source, sink, bus, LOG_LIMIT) {
         Ok(()) => 0,
         Err(fault) => tell_fault(fault, err),
     }

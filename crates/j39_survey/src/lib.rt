@@ -5,4 +5,4 @@ pub mod node_lists;
 pub mod surveys;
 
 pub use node_lists::{LONG_SILENCE, SeenAsked, nodes, nodes_of, nodes_seen};
-pub use surveys::survey;
+pub use surveys::{SurveyWanted, survey};

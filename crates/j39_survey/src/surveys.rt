@@ -16,4 +16,4 @@ mod traffic;
 mod unread;
 mod writing;
 
-pub use running::survey;
+pub use running::{SurveyWanted, survey};

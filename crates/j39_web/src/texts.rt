@@ -159,15 +159,11 @@ pub fn survey(
     let mut sink = Room::new(room);
     let limit = log.len() as u64;
     let naming = Naming::by_table(groups);
-    let ran = j39_survey::survey(
-        alloc,
-        Format::Line(Clock::Seconds),
-        &naming,
-        &mut source,
-        &mut sink,
-        bus,
-        limit,
-    );
+    let wanted = j39_survey::SurveyWanted {
+        form: Format::Line(Clock::Seconds),
+        naming: &naming,
+    };
+    let ran = j39_survey::survey(alloc, wanted, &mut source, &mut sink, bus, limit);
     told(uncounted(ran), &sink)
 }
 

@@ -20,13 +20,19 @@ use std::alloc::{AllocError, Global};
 /// The bytes of one read.
 const PIECE: usize = 65_536;
 
-/// Writes what a log of at most `limit` bytes is, in lines, records or objects: how many lines it has, its interfaces, the groups of one interface, by these
-/// names and their table, its other lines by kind, and its unread lines. Without a bus the groups are those of the first frame's.
+/// In which form a survey is written, and by which names and their table.
+#[derive(Clone, Copy)]
+pub struct SurveyWanted<'n, 't> {
+    pub form: Format,
+    pub naming: &'n Naming<'n, 't>,
+}
+
+/// Writes what a log of at most `limit` bytes is: how many lines it has, its interfaces, the groups of one interface, its other
+/// lines by kind, and its unread lines. Without a bus the groups are those of the first frame's.
 /// Nothing is written before the end of the log. It takes memory at the start and at announcements.
 pub fn survey<R: Source, W: Sink>(
     alloc: Global,
-    form: Format,
-    naming: &Naming<'_, '_>,
+    wanted: SurveyWanted<'_, '_>,
     source: &mut R,
     sink: &mut W,
     bus: Option<Bus>,
@@ -34,13 +40,14 @@ pub fn survey<R: Source, W: Sink>(
 ) -> Result<(), RunFault>
     // What the run promises is `Surveyed`: what is written is the survey of the log's lines, and nothing else, at the end
     // of the log. Memory is wanted before the first read, and at a frame that announces a message.
-    ensures ran { Surveyed (record { form = form; naming = naming_of naming.now; given = bus }) limit result
+    ensures ran { Surveyed (record { form = wanted.entry.form; naming = naming_of wanted.entry.naming.now; given = bus }) limit result
         (turn R.remaining R.has_failed source.old source.new) (turn W.written W.has_failed sink.old sink.new) }
 
     // What was written is passed on at the end; before the end of the log nothing is.
     ensures flushed { PassesOn result (W.is_flushed sink.old) (W.is_flushed sink.new) }
     ensures unflushed { OnErr result (result ≢ Err Write → W.is_flushed sink.new ≡ W.is_flushed sink.old) }
 {
+    let SurveyWanted { form, naming } = wanted;
     match Pieces::new(alloc, bus) {
         Ok(mut pieces) => survey_with(&mut pieces, form, naming, source, sink, limit),
         Err(_) => Err(RunFault::Memory),

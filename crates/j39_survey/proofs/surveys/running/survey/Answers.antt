@@ -6,7 +6,7 @@ use Rattle.j39_survey.proofs.surveys.running.survey.Goals as goal
 
 pub returns-in-Ok-clause-ran : goal.returns-in-Ok-clause-ran
 returns-in-Ok-clause-ran g c =
-    let asked : Asked = record { form = c.args.form; naming = (naming_of c.args.naming.now); given = c.args.bus } in
+    let asked : Asked = record { form = c.args.wanted.form; naming = naming_of c.args.wanted.naming.now; given = c.args.bus } in
     let run = c.survey_with.ensures in
     record {
       ended = run.ended;
