@@ -10,6 +10,7 @@ pub(crate) mod last_message;
 mod last_messages;
 pub mod laws;
 pub(crate) mod lines;
+mod message;
 pub(crate) mod names;
 pub(crate) mod run;
 mod since;

@@ -25,6 +25,7 @@ use crate::fault_news::announced::Announced;
 use crate::fault_news::form::{Writing, names_asked};
 use crate::fault_news::last_faults::LastFaults;
 use crate::fault_news::lines::put_clearing;
+use crate::fault_news::message::CodeMessage;
 use crate::fault_news::since::put_since;
 use crate::fault_news::telling::{Choice, Telling};
 use j39_address::Name;
@@ -227,15 +228,18 @@ fn put_heard<W: Sink>(
         });
     }
     let version = version_of(choice.conversions, heard.name);
+    let message = CodeMessage {
+        heard,
+        kind,
+        version,
+        lamps,
+    };
     put_since(
         alloc,
-        heard,
+        message,
         writing,
         choice.telling,
         asked.is_taken,
-        version,
-        kind,
-        lamps,
         last,
         sink,
     )

@@ -16,12 +16,12 @@ ghost use Rattle.j39_fault_reports.specs.Faults.{lines_in};
 use crate::fault_news::columns::message_columns;
 use crate::fault_news::form::{Saying, Writing};
 use crate::fault_news::lines::{message_head, put_fault, put_lights};
+use crate::fault_news::message::CodeMessage;
 use j39_faults::{
     Change, Code, Lamps, LampsText, State, Version, change_since, clearing_by, code_by, codes_of,
     lamps_of, lamps_told,
 };
 use j39_io::{DeviceFault, Sink};
-use j39_listen::Heard;
 use j39_rows::Head;
 
 /// Which of two messages, one behind the other, names a code.
@@ -34,65 +34,44 @@ pub(crate) enum Side {
 /// Writes a line for the lamps, if they changed from a payload to the message behind it, and one for each code that did, and answers
 /// how many.
 pub(crate) fn put_changes<W: Sink>(
-    heard: &Heard<'_>,
+    message: CodeMessage<'_>,
     writing: Writing<'_, '_>,
-    version: Option<Version>,
-    lamps: Lamps,
     before: &[u8],
     sink: &mut W,
 ) -> Result<u64, DeviceFault>
-    ensures lines { IfOk result (λ n. n ≡ lines_in (manner_of writing.entry) (changes_by version before.now (hearing_of heard.now) lamps)) }
-    ensures puts { Puts (faults_text writing.entry.form (manner_of writing.entry) (changes_by version before.now (hearing_of heard.now) lamps))
+    ensures lines { IfOk result (λ n. n ≡ lines_in (manner_of writing.entry) (changes_by message.entry.version before.now (hearing_of message.entry.heard.now) message.entry.lamps)) }
+    ensures puts { Puts (faults_text writing.entry.form (manner_of writing.entry) (changes_by message.entry.version before.now (hearing_of message.entry.heard.now) message.entry.lamps))
         result (turn W.written W.has_failed sink.old sink.new) }
 {
+    let heard = message.heard;
     let columns = message_columns(heard);
     let head = message_head(heard, &columns);
     let words = words_in(before);
-    let lit = put_lights(head, writing, words.as_slice(), lamps, sink)?;
-    let coded = put_code_changes(heard, head, writing, version, lamps, before, sink)?;
+    let lit = put_lights(head, writing, words.as_slice(), message.lamps, sink)?;
+    let coded = put_code_changes(message, head, writing, before, sink)?;
     Ok(lit + coded)
 }
 
 /// Writes a line for each code that changed from a payload to the message behind it, and answers how many.
 fn put_code_changes<W: Sink>(
-    heard: &Heard<'_>,
+    message: CodeMessage<'_>,
     head: Head<'_>,
     writing: Writing<'_, '_>,
-    version: Option<Version>,
-    lamps: Lamps,
     before: &[u8],
     sink: &mut W,
 ) -> Result<u64, DeviceFault>
-    requires { head_of head ≡ message_head (stamp_micros heard.now.message.stamp) heard.now.message.source
-        heard.now.destination (option_map name_raw heard.now.name) }
-    ensures lines { IfOk result (λ n. n ≡ lines_in (manner_of writing.entry) (code_changes version before.now (hearing_of heard.now) lamps)) }
+    requires { head_of head ≡ message_head (stamp_micros message.heard.now.message.stamp) message.heard.now.message.source
+        message.heard.now.destination (option_map name_raw message.heard.now.name) }
+    ensures lines { IfOk result (λ n. n ≡ lines_in (manner_of writing.entry) (code_changes message.entry.version before.now (hearing_of message.entry.heard.now) message.entry.lamps)) }
     ensures few { IfOk result (λ n. n + 1 < 2 ^ 64) }
-    ensures puts { Puts (faults_text writing.entry.form (manner_of writing.entry) (code_changes version before.now (hearing_of heard.now) lamps))
+    ensures puts { Puts (faults_text writing.entry.form (manner_of writing.entry) (code_changes message.entry.version before.now (hearing_of message.entry.heard.now) message.entry.lamps))
         result (turn W.written W.has_failed sink.old sink.new) }
 {
+    let heard = message.heard;
     let payload = heard.message.payload;
-    let later = put_changed(
-        heard,
-        head,
-        writing,
-        version,
-        lamps,
-        Side::Later,
-        payload,
-        before,
-        sink,
-    )?;
-    let earlier = put_changed(
-        heard,
-        head,
-        writing,
-        version,
-        lamps,
-        Side::Earlier,
-        before,
-        payload,
-        sink,
-    )?;
+    let (now, then) = (Side::Later, Side::Earlier);
+    let later = put_changed(message, head, writing, now, payload, before, sink)?;
+    let earlier = put_changed(message, head, writing, then, before, payload, sink)?;
     Ok(later + earlier)
 }
 
@@ -108,30 +87,28 @@ fn words_in(payload: &[u8]) -> LampsText
 
 /// Writes a line for each code of a payload that changed, the other message having these, and answers how many.
 fn put_changed<W: Sink>(
-    heard: &Heard<'_>,
+    message: CodeMessage<'_>,
     head: Head<'_>,
     writing: Writing<'_, '_>,
-    version: Option<Version>,
-    lamps: Lamps,
     side: Side,
     payload: &[u8],
     others: &[u8],
     sink: &mut W,
 ) -> Result<u64, DeviceFault>
-    requires { head_of head ≡ message_head (stamp_micros heard.now.message.stamp) heard.now.message.source
-        heard.now.destination (option_map name_raw heard.now.name) }
+    requires { head_of head ≡ message_head (stamp_micros message.heard.now.message.stamp) message.heard.now.message.source
+        message.heard.now.destination (option_map name_raw message.heard.now.name) }
     ensures lines { IfOk result (λ n. n
-        ≡ lines_in (manner_of writing.entry) (changed side (hearing_of heard.now) lamps (codes_by version others.now) (codes_by version payload.now))) }
+        ≡ lines_in (manner_of writing.entry) (changed side (hearing_of message.entry.heard.now) message.entry.lamps (codes_by message.entry.version others.now) (codes_by message.entry.version payload.now))) }
     ensures few { IfOk result (λ n. n ≤ length payload.now) }
     ensures puts { Puts (faults_text writing.entry.form (manner_of writing.entry)
-        (changed side (hearing_of heard.now) lamps (codes_by version others.now) (codes_by version payload.now)))
+        (changed side (hearing_of message.entry.heard.now) message.entry.lamps (codes_by message.entry.version others.now) (codes_by message.entry.version payload.now)))
         result (turn W.written W.has_failed sink.old sink.new) }
 {
     let mut lines = 0;
     for code in codes_of(payload) {
-        let code = code_by(version, code);
-        let change = change_by(side, version, others, code);
-        lines += put_change(heard, head, writing, lamps, code, change, sink)?;
+        let code = code_by(message.version, code);
+        let change = change_by(side, message.version, others, code);
+        lines += put_change(message, head, writing, code, change, sink)?;
     }
     Ok(lines)
 }
@@ -148,18 +125,17 @@ fn change_by(side: Side, version: Option<Version>, others: &[u8], code: Code) ->
 
 /// Writes a line for a code that changed, and answers how many.
 fn put_change<W: Sink>(
-    heard: &Heard<'_>,
+    message: CodeMessage<'_>,
     head: Head<'_>,
     writing: Writing<'_, '_>,
-    lamps: Lamps,
     code: Code,
     change: Option<Change>,
     sink: &mut W,
 ) -> Result<u64, DeviceFault>
-    requires { head_of head ≡ message_head (stamp_micros heard.now.message.stamp) heard.now.message.source
-        heard.now.destination (option_map name_raw heard.now.name) }
-    ensures lines { IfOk result (λ n. n ≡ lines_in (manner_of writing.entry) (became (hearing_of heard.now) lamps code change)) }
-    ensures puts { Puts (faults_text writing.entry.form (manner_of writing.entry) (became (hearing_of heard.now) lamps code change))
+    requires { head_of head ≡ message_head (stamp_micros message.heard.now.message.stamp) message.heard.now.message.source
+        message.heard.now.destination (option_map name_raw message.heard.now.name) }
+    ensures lines { IfOk result (λ n. n ≡ lines_in (manner_of writing.entry) (became (hearing_of message.entry.heard.now) message.entry.lamps code change)) }
+    ensures puts { Puts (faults_text writing.entry.form (manner_of writing.entry) (became (hearing_of message.entry.heard.now) message.entry.lamps code change))
         result (turn W.written W.has_failed sink.old sink.new) }
 {
     let Some(change) = change else {
@@ -167,7 +143,7 @@ fn put_change<W: Sink>(
     };
     let said = Saying {
         state: State::Became(change),
-        lamps,
+        lamps: message.lamps,
         code: Some(code),
     };
     put_fault(head, writing, said, sink)

@@ -20,6 +20,7 @@ use crate::fault_news::columns::{
     coded, lights_columns, message_columns, moment_head, state_name, uncoded,
 };
 use crate::fault_news::form::{Saying, Writing, lights_asked, names_asked};
+use crate::fault_news::message::CodeMessage;
 use crate::fault_news::names::name_in;
 use j39_faults::{
     Code, Kind, Lamps, State, Version, clear_word, code_by, codes_of, lamps_told, parameter_words,
@@ -33,52 +34,47 @@ use j39_rows::{Cell, Column, Head, put_columns, put_row};
 /// Writes a line for the lamps of a message, if they aren't all off, and one for each code, by this version of the conversion, or one
 /// that says that it has none, and answers how many.
 pub(crate) fn put_message<W: Sink>(
-    heard: &Heard<'_>,
+    message: CodeMessage<'_>,
     writing: Writing<'_, '_>,
-    version: Option<Version>,
-    kind: Kind,
-    lamps: Lamps,
     sink: &mut W,
 ) -> Result<u64, DeviceFault>
     ensures lines { IfOk result (λ n. n ≡ lines_in (manner_of writing.entry)
-        (faults_by version (hearing_of heard.now) (Some kind) (Some lamps))) }
+        (faults_by message.entry.version (hearing_of message.entry.heard.now) (Some message.entry.kind) (Some message.entry.lamps))) }
     ensures puts { Puts (faults_text writing.entry.form (manner_of writing.entry)
-        (faults_by version (hearing_of heard.now) (Some kind) (Some lamps)))
+        (faults_by message.entry.version (hearing_of message.entry.heard.now) (Some message.entry.kind) (Some message.entry.lamps)))
         result (turn W.written W.has_failed sink.old sink.new) }
 {
+    let heard = message.heard;
     let columns = message_columns(heard);
     let head = message_head(heard, &columns);
-    let lit = put_lights(head, writing, b"", lamps, sink)?;
-    let coded = put_coded(heard, head, writing, version, kind, lamps, sink)?;
+    let lit = put_lights(head, writing, b"", message.lamps, sink)?;
+    let coded = put_coded(message, head, writing, sink)?;
     Ok(lit + coded)
 }
 
 /// Writes a line for each code of a message, or one that says that it has none, and answers how many.
 fn put_coded<W: Sink>(
-    heard: &Heard<'_>,
+    message: CodeMessage<'_>,
     head: Head<'_>,
     writing: Writing<'_, '_>,
-    version: Option<Version>,
-    kind: Kind,
-    lamps: Lamps,
     sink: &mut W,
 ) -> Result<u64, DeviceFault>
-    requires { head_of head ≡ message_head (stamp_micros heard.now.message.stamp) heard.now.message.source
-        heard.now.destination (option_map name_raw heard.now.name) }
+    requires { head_of head ≡ message_head (stamp_micros message.heard.now.message.stamp) message.heard.now.message.source
+        message.heard.now.destination (option_map name_raw message.heard.now.name) }
     ensures lines { IfOk result (λ n. n ≡ lines_in (manner_of writing.entry)
-        (map (fault_of (hearing_of heard.now) (Is kind) lamps) (codes_or_none (codes_by version heard.now.message.payload.now)))) }
+        (map (fault_of (hearing_of message.entry.heard.now) (Is message.entry.kind) message.entry.lamps) (codes_or_none (codes_by message.entry.version message.entry.heard.now.message.payload.now)))) }
     ensures few { IfOk result (λ n. n + 1 < 2 ^ 64) }
     ensures puts { Puts (faults_text writing.entry.form (manner_of writing.entry)
-        (map (fault_of (hearing_of heard.now) (Is kind) lamps) (codes_or_none (codes_by version heard.now.message.payload.now))))
+        (map (fault_of (hearing_of message.entry.heard.now) (Is message.entry.kind) message.entry.lamps) (codes_or_none (codes_by message.entry.version message.entry.heard.now.message.payload.now))))
         result (turn W.written W.has_failed sink.old sink.new) }
 {
-    let payload = heard.message.payload;
-    let lines = put_codes(head, writing, version, kind, lamps, payload, sink)?;
+    let heard = message.heard;
+    let lines = put_codes(head, writing, message, heard.message.payload, sink)?;
     if lines > 0 {
         return Ok(lines);
     }
-    let state = State::Is(kind);
-    let code = None;
+    let state = State::Is(message.kind);
+    let (lamps, code) = (message.lamps, None);
     put_fault(head, writing, Saying { state, lamps, code }, sink)
 }
 
@@ -110,21 +106,21 @@ pub(crate) fn put_lights<W: Sink>(
 fn put_codes<W: Sink>(
     head: Head<'_>,
     writing: Writing<'_, '_>,
-    version: Option<Version>,
-    kind: Kind,
-    lamps: Lamps,
+    message: CodeMessage<'_>,
     payload: &[u8],
     sink: &mut W,
 ) -> Result<u64, DeviceFault>
-    ensures lines { IfOk result (λ n. n ≡ count_by (λ code. names_asked (spns_now writing.entry.spns) (Some code)) (codes_by version payload.now)) }
+    ensures lines { IfOk result (λ n. n ≡ count_by (λ code. names_asked (spns_now writing.entry.spns) (Some code))
+        (codes_by message.entry.version payload.now)) }
     ensures few { IfOk result (λ n. n + 1 < 2 ^ 64) }
-    ensures puts { Puts (flat_map (λ code. line_of writing.entry.form (head_of head.entry) (manner_of writing.entry) (Is kind) lamps (Some code))
-        (codes_by version payload.now)) result (turn W.written W.has_failed sink.old sink.new) }
+    ensures puts { Puts (flat_map (λ code. line_of writing.entry.form (head_of head.entry) (manner_of writing.entry) (Is message.entry.kind) message.entry.lamps (Some code))
+        (codes_by message.entry.version payload.now)) result (turn W.written W.has_failed sink.old sink.new) }
 {
     let mut lines = 0;
     for code in codes_of(payload) {
-        let state = State::Is(kind);
-        let code = Some(code_by(version, code));
+        let state = State::Is(message.kind);
+        let lamps = message.lamps;
+        let code = Some(code_by(message.version, code));
         lines += put_fault(head, writing, Saying { state, lamps, code }, sink)?;
     }
     Ok(lines)

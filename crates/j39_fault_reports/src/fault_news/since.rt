@@ -17,57 +17,50 @@ use crate::fault_news::form::Writing;
 use crate::fault_news::last_faults::LastFaults;
 use crate::fault_news::last_messages::LastMessages;
 use crate::fault_news::lines::put_message;
+use crate::fault_news::message::CodeMessage;
 use crate::fault_news::telling::Telling;
-use j39_faults::{Kind, Lamps, Version};
+use j39_faults::Kind;
 use j39_io::{DeviceFault, Sink};
-use j39_listen::{Heard, LineFault, Made};
+use j39_listen::{LineFault, Made};
 use std::alloc::{AllocError, Global};
 
 /// Tells what is to be told of a message of codes, if it is asked for, notes what it says, and answers its numbers.
 pub(crate) fn put_since<W: Sink>(
     alloc: Global,
-    heard: &Heard<'_>,
+    message: CodeMessage<'_>,
     writing: Writing<'_, '_>,
     telling: Telling,
     is_asked: bool,
-    version: Option<Version>,
-    kind: Kind,
-    lamps: Lamps,
     last: &mut LastFaults,
     sink: &mut W,
 ) -> Result<Made, LineFault>
     ensures tells { TellsFaults writing.entry.form (manner_of writing.entry)
         (told_faults is_asked
-        (told_since telling version (before_of telling last.old kind (hearing_of heard.now)) (hearing_of heard.now) kind lamps))
+        (told_since telling message.entry.version (before_of telling last.old message.entry.kind (hearing_of message.entry.heard.now)) (hearing_of message.entry.heard.now) message.entry.kind message.entry.lamps))
         result (turn W.written W.has_failed sink.old sink.new) }
-    ensures noted { OnOk result (tells_changes telling kind ≡ false → last.new ≡ noted last.old kind heard.now.message.source
-        (said_by heard.now.message.payload.now (option_map name_raw heard.now.name))) }
-    ensures alone { OnOk result (tells_changes telling kind ≡ true → last.new ≡ record last.old { active = last.new.active }) }
-    ensures moved { OnOk result (tells_changes telling kind ≡ true
-        → HaveTaken name_of last.old.active (option_map name_raw heard.now.name) heard.now.message.source
-        (said_by heard.now.message.payload.now (option_map name_raw heard.now.name)) last.new.active) }
-    ensures first { result ≡ Err line_fault.Memory → said_at last.old kind heard.now.message.source ≡ None }
+    ensures noted { OnOk result (tells_changes telling message.entry.kind ≡ false → last.new ≡ noted last.old message.entry.kind message.entry.heard.now.message.source
+        (said_by message.entry.heard.now.message.payload.now (option_map name_raw message.entry.heard.now.name))) }
+    ensures alone { OnOk result (tells_changes telling message.entry.kind ≡ true → last.new ≡ record last.old { active = last.new.active }) }
+    ensures moved { OnOk result (tells_changes telling message.entry.kind ≡ true
+        → HaveTaken name_of last.old.active (option_map name_raw message.entry.heard.now.name) message.entry.heard.now.message.source
+        (said_by message.entry.heard.now.message.payload.now (option_map name_raw message.entry.heard.now.name)) last.new.active) }
+    ensures first { result ≡ Err line_fault.Memory → said_at last.old message.entry.kind message.entry.heard.now.message.source ≡ None }
 {
-    if tells_changes(telling, kind) {
-        let active = &mut last.active;
-        return put_active(
-            alloc, heard, writing, is_asked, version, lamps, active, sink,
-        );
+    if tells_changes(telling, message.kind) {
+        return put_active(alloc, message, writing, is_asked, &mut last.active, sink);
     }
+    let CodeMessage {
+        heard,
+        kind,
+        version,
+        ..
+    } = message;
     let (source, payload) = (heard.message.source, heard.message.payload);
     match last.note(alloc, kind, version, source, payload, heard.name) {
         Err(AllocError) => Err(LineFault::Memory),
         Ok(is_news) => {
             let is_told = is_told(telling, is_news);
-            put_told(
-                heard,
-                writing,
-                is_asked && is_told,
-                version,
-                kind,
-                lamps,
-                sink,
-            )
+            put_told(message, writing, is_asked && is_told, sink)
         }
     }
 }
@@ -110,16 +103,13 @@ fn is_told(telling: Telling, is_news: bool) -> bool
 
 /// Writes the lines of a message of codes where it is told, and answers its numbers.
 fn put_told<W: Sink>(
-    heard: &Heard<'_>,
+    message: CodeMessage<'_>,
     writing: Writing<'_, '_>,
     is_told: bool,
-    version: Option<Version>,
-    kind: Kind,
-    lamps: Lamps,
     sink: &mut W,
 ) -> Result<Made, LineFault>
     ensures tells { TellsFaults writing.entry.form (manner_of writing.entry)
-        (told_faults is_told (faults_by version (hearing_of heard.now) (Some kind) (Some lamps)))
+        (told_faults is_told (faults_by message.entry.version (hearing_of message.entry.heard.now) (Some message.entry.kind) (Some message.entry.lamps)))
         result (turn W.written W.has_failed sink.old sink.new) }
     ensures not_memory { result ≢ Err line_fault.Memory }
 {
@@ -129,7 +119,7 @@ fn put_told<W: Sink>(
             lines: 0,
         });
     }
-    match put_message(heard, writing, version, kind, lamps, sink) {
+    match put_message(message, writing, sink) {
         Ok(lines) => Ok(Made { messages: 1, lines }),
         Err(DeviceFault) => Err(LineFault::Write),
     }
@@ -139,31 +129,30 @@ fn put_told<W: Sink>(
 /// is taken where nothing was said before.
 fn put_active<W: Sink>(
     alloc: Global,
-    heard: &Heard<'_>,
+    message: CodeMessage<'_>,
     writing: Writing<'_, '_>,
     is_asked: bool,
-    version: Option<Version>,
-    lamps: Lamps,
     active: &mut LastMessages,
     sink: &mut W,
 ) -> Result<Made, LineFault>
-    ensures tells { TellsFaults writing.entry.form (manner_of writing.entry) (told_faults is_asked (changes_by version
-        (said_before (kept_before name_of active.old (option_map name_raw heard.now.name) heard.now.message.source) (option_map name_raw heard.now.name))
-        (hearing_of heard.now) lamps))
+    ensures tells { TellsFaults writing.entry.form (manner_of writing.entry) (told_faults is_asked (changes_by message.entry.version
+        (said_before (kept_before name_of active.old (option_map name_raw message.entry.heard.now.name) message.entry.heard.now.message.source) (option_map name_raw message.entry.heard.now.name))
+        (hearing_of message.entry.heard.now) message.entry.lamps))
         result (turn W.written W.has_failed sink.old sink.new) }
-    ensures moved { OnOk result (HaveTaken name_of active.old (option_map name_raw heard.now.name) heard.now.message.source
-        (said_by heard.now.message.payload.now (option_map name_raw heard.now.name)) active.new) }
-    ensures first { result ≡ Err line_fault.Memory → at active.old heard.now.message.source ≡ None }
+    ensures moved { OnOk result (HaveTaken name_of active.old (option_map name_raw message.entry.heard.now.name) message.entry.heard.now.message.source
+        (said_by message.entry.heard.now.message.payload.now (option_map name_raw message.entry.heard.now.name)) active.new) }
+    ensures first { result ≡ Err line_fault.Memory → at active.old message.entry.heard.now.message.source ≡ None }
 {
+    let CodeMessage { heard, version, .. } = message;
     let (source, payload) = (heard.message.source, heard.message.payload);
     let Some(mut said) = active.take_before(usize::from(source), heard.name) else {
         return match active.note(alloc, version, source, payload, heard.name) {
             Err(AllocError) => Err(LineFault::Memory),
-            Ok(_) => put_made(heard, writing, is_asked, version, lamps, &[], sink),
+            Ok(_) => put_made(message, writing, is_asked, &[], sink),
         };
     };
     let before = said.bytes_for(heard.name);
-    let made = put_made(heard, writing, is_asked, version, lamps, before, sink);
+    let made = put_made(message, writing, is_asked, before, sink);
     said.replace(payload, heard.name);
     active.put(source, said);
     made
@@ -171,16 +160,14 @@ fn put_active<W: Sink>(
 
 /// Writes what became of active codes since these bytes were said, if it is asked for, and answers the message's numbers.
 fn put_made<W: Sink>(
-    heard: &Heard<'_>,
+    message: CodeMessage<'_>,
     writing: Writing<'_, '_>,
     is_asked: bool,
-    version: Option<Version>,
-    lamps: Lamps,
     before: &[u8],
     sink: &mut W,
 ) -> Result<Made, LineFault>
     ensures tells { TellsFaults writing.entry.form (manner_of writing.entry)
-        (told_faults is_asked (changes_by version before.now (hearing_of heard.now) lamps))
+        (told_faults is_asked (changes_by message.entry.version before.now (hearing_of message.entry.heard.now) message.entry.lamps))
         result (turn W.written W.has_failed sink.old sink.new) }
     ensures not_memory { result ≢ Err line_fault.Memory }
 {
@@ -190,7 +177,7 @@ fn put_made<W: Sink>(
             lines: 0,
         });
     }
-    match put_changes(heard, writing, version, lamps, before, sink) {
+    match put_changes(message, writing, before, sink) {
         Ok(lines) => Ok(Made { messages: 1, lines }),
         Err(DeviceFault) => Err(LineFault::Write),
     }

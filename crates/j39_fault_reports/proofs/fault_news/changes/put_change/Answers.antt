@@ -13,9 +13,9 @@ returns-in_default-clause-puts g c =
 
 pub returns-clause-puts : goal.returns-clause-puts
 returns-clause-puts g c =
-    rw c.in-Some.is (change_put c.args.writing.form (manner_of c.args.writing) (hearing_of c.args.heard.now) c.args.lamps c.args.code c.in-Some.change _ _ _ c.requires c.put_fault.ensures.puts)
+    rw c.in-Some.is (change_put c.args.writing.form (manner_of c.args.writing) (hearing_of c.args.message.heard.now) c.args.message.lamps c.args.code c.in-Some.change _ _ _ c.requires c.put_fault.ensures.puts)
 
 pub returns-clause-lines : goal.returns-clause-lines
 returns-clause-lines g c =
-    let m = hearing_of c.args.heard.now in
-    rw c.in-Some.is (if_ok c.put_fault.result _ _ (λ n is. is ∙ count_here (says_asked (manner_of c.args.writing)) (fault_of m (Became c.in-Some.change) c.args.lamps (Some c.args.code))) c.put_fault.ensures.lines)
+    let m = hearing_of c.args.message.heard.now in
+    rw c.in-Some.is (if_ok c.put_fault.result _ _ (λ n is. is ∙ count_here (says_asked (manner_of c.args.writing)) (fault_of m (Became c.in-Some.change) c.args.message.lamps (Some c.args.code))) c.put_fault.ensures.lines)

@@ -11,7 +11,7 @@ loop-code-init g c =
     let left : codes_left c.into_iter-code-iterator.result ≡ codes_of c.args.payload.now = search rules in
     record {
       before = [];
-      all_are = ap (map (code_by c.args.version)) (sym left);
+      all_are = ap (map (code_by c.args.message.version)) (sym left);
       count_is = refl;
       few = omega arith;
       written = puts_as _ _ _ _ (sym (faults_text-none c.args.writing.form (manner_of c.args.writing))) (puts_nothing _ _);
@@ -19,16 +19,16 @@ loop-code-init g c =
 
 pub returns-in_err-lines-clause-puts : goal.returns-in_err-lines-clause-puts
 returns-in_err-lines-clause-puts g c =
-    change_stops c.args.writing.form (manner_of c.args.writing) (hearing_of c.args.heard.now) c.args.lamps c.args.side (codes_by c.args.version c.args.others.now) c.args.version c.args.payload.now
+    change_stops c.args.writing.form (manner_of c.args.writing) (hearing_of c.args.message.heard.now) c.args.message.lamps c.args.side (codes_by c.args.message.version c.args.others.now) c.args.message.version c.args.payload.now
     c.in-Some.code _ _ c.loop-code.lines _ _ _ _ _ c.from_residual.ensures.0 c.loop-code.invariant c.in-Some.ensures.steps
     (rw (c.change_by-change.ensures, c.code_by-code.ensures) at c.in_err-lines.ensures.puts)
 
 -- what was written with the code
 more : (g : Over) (c : goal.In_ok-lines g)
-    → HasChanged c.args.writing.form (manner_of c.args.writing) (hearing_of c.args.heard.now) c.args.lamps c.args.side (codes_by c.args.version c.args.others.now) c.args.version c.args.payload.now
+    → HasChanged c.args.writing.form (manner_of c.args.writing) (hearing_of c.args.message.heard.now) c.args.message.lamps c.args.side (codes_by c.args.message.version c.args.others.now) c.args.message.version c.args.payload.now
     (codes_left c.next.new.self) (c.loop-code.lines + c.in_ok-lines.field-0) (turn g.W.Sink.written g.W.Sink.has_failed c.args.sink.now c.put_change.new.sink)
 more g c =
-    change_more c.args.writing.form (manner_of c.args.writing) (hearing_of c.args.heard.now) c.args.lamps c.args.side (codes_by c.args.version c.args.others.now) c.args.version c.args.payload.now
+    change_more c.args.writing.form (manner_of c.args.writing) (hearing_of c.args.message.heard.now) c.args.message.lamps c.args.side (codes_by c.args.message.version c.args.others.now) c.args.message.version c.args.payload.now
     c.in-Some.code _ _ c.loop-code.lines c.in_ok-lines.field-0 _ _ _ c.loop-code.invariant c.in-Some.ensures.steps
     (rw (c.change_by-change.ensures, c.code_by-code.ensures) at c.in_ok-lines.ensures.lines)
     (rw (c.change_by-change.ensures, c.code_by-code.ensures) at c.in_ok-lines.ensures.puts)
@@ -38,10 +38,10 @@ loop-code-preserved g c = more g c
 
 pub overflow_add-lines : goal.overflow_add-lines
 overflow_add-lines g c =
-    let few = few_changed c.args.writing.form (manner_of c.args.writing) (hearing_of c.args.heard.now) c.args.lamps c.args.side (codes_by c.args.version c.args.others.now) c.args.version c.args.payload.now _ _ _ (more g c) in
+    let few = few_changed c.args.writing.form (manner_of c.args.writing) (hearing_of c.args.message.heard.now) c.args.message.lamps c.args.side (codes_by c.args.message.version c.args.others.now) c.args.message.version c.args.payload.now _ _ _ (more g c) in
     let fits = c.type_inv.payload in
     omega arith
 
 pub returns-clause-few : goal.returns-clause-few
 returns-clause-few g c =
-    few_changed c.args.writing.form (manner_of c.args.writing) (hearing_of c.args.heard.now) c.args.lamps c.args.side (codes_by c.args.version c.args.others.now) c.args.version c.args.payload.now _ _ _ c.loop-code.invariant
+    few_changed c.args.writing.form (manner_of c.args.writing) (hearing_of c.args.message.heard.now) c.args.message.lamps c.args.side (codes_by c.args.message.version c.args.others.now) c.args.message.version c.args.payload.now _ _ _ c.loop-code.invariant

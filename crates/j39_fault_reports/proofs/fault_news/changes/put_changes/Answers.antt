@@ -8,34 +8,34 @@ use Rattle.j39_fault_reports.proofs.fault_news.changes.put_changes.Goals as goal
 
 pub returns-in_err-lit-clause-puts : goal.returns-in_err-lit-clause-puts
 returns-in_err-lit-clause-puts g c =
-    let m = hearing_of c.args.heard.now in
-    let coded = code_changes c.args.version c.args.before.now m c.args.lamps in
+    let m = hearing_of c.args.message.heard.now in
+    let coded = code_changes c.args.message.version c.args.before.now m c.args.message.lamps in
     let words = c.as_slice.ensures.value ∙ c.words_in-words.ensures in
-    puts_as _ _ _ _ (both_text c.args.writing.form (manner_of c.args.writing) (words_of (lamps_of c.args.before.now)) c.args.lamps (said_at m) _ refl c.message_head-head.ensures coded)
+    puts_as _ _ _ _ (both_text c.args.writing.form (manner_of c.args.writing) (words_of (lamps_of c.args.before.now)) c.args.message.lamps (said_at m) _ refl c.message_head-head.ensures coded)
     (puts_first _ _ _ _ _ c.from_residual.ensures.0 (rw words at c.in_err-lit.ensures.puts))
 
 pub returns-in_err-coded-clause-puts : goal.returns-in_err-coded-clause-puts
 returns-in_err-coded-clause-puts g c =
-    let m = hearing_of c.args.heard.now in
-    let coded = code_changes c.args.version c.args.before.now m c.args.lamps in
+    let m = hearing_of c.args.message.heard.now in
+    let coded = code_changes c.args.message.version c.args.before.now m c.args.message.lamps in
     let words = c.as_slice.ensures.value ∙ c.words_in-words.ensures in
-    puts_as _ _ _ _ (both_text c.args.writing.form (manner_of c.args.writing) (words_of (lamps_of c.args.before.now)) c.args.lamps (said_at m) _ refl c.message_head-head.ensures coded)
+    puts_as _ _ _ _ (both_text c.args.writing.form (manner_of c.args.writing) (words_of (lamps_of c.args.before.now)) c.args.message.lamps (said_at m) _ refl c.message_head-head.ensures coded)
     (puts_then _ _ _ _ _ _ _ (rw words at c.in_ok-lit.ensures.puts) (puts_failed _ _ _ _ c.from_residual-in_err-coded.ensures.0 c.in_err-coded.ensures.puts))
 
 pub returns-clause-puts : goal.returns-clause-puts
 returns-clause-puts g c =
-    let m = hearing_of c.args.heard.now in
-    let coded = code_changes c.args.version c.args.before.now m c.args.lamps in
+    let m = hearing_of c.args.message.heard.now in
+    let coded = code_changes c.args.message.version c.args.before.now m c.args.message.lamps in
     let words = c.as_slice.ensures.value ∙ c.words_in-words.ensures in
-    puts_as _ _ _ _ (both_text c.args.writing.form (manner_of c.args.writing) (words_of (lamps_of c.args.before.now)) c.args.lamps (said_at m) _ refl c.message_head-head.ensures coded)
+    puts_as _ _ _ _ (both_text c.args.writing.form (manner_of c.args.writing) (words_of (lamps_of c.args.before.now)) c.args.message.lamps (said_at m) _ refl c.message_head-head.ensures coded)
     (puts_then _ _ _ _ _ _ _ (rw words at c.in_ok-lit.ensures.puts) (puts_done _ _ _ _ c.in_ok-coded.ensures.puts))
 
 pub returns-clause-lines : goal.returns-clause-lines
 returns-clause-lines g c =
-    let m = hearing_of c.args.heard.now in
-    let coded = code_changes c.args.version c.args.before.now m c.args.lamps in
+    let m = hearing_of c.args.message.heard.now in
+    let coded = code_changes c.args.message.version c.args.before.now m c.args.message.lamps in
     let words = c.as_slice.ensures.value ∙ c.words_in-words.ensures in
-    both_count c.args.writing.form (manner_of c.args.writing) (words_of (lamps_of c.args.before.now)) c.args.lamps (said_at m) _ refl c.message_head-head.ensures coded _ _ (rw words at c.in_ok-lit.ensures.lines) c.in_ok-coded.ensures.lines
+    both_count c.args.writing.form (manner_of c.args.writing) (words_of (lamps_of c.args.before.now)) c.args.message.lamps (said_at m) _ refl c.message_head-head.ensures coded _ _ (rw words at c.in_ok-lit.ensures.lines) c.in_ok-coded.ensures.lines
 
 pub overflow_add-result : goal.overflow_add-result
 overflow_add-result g c =
