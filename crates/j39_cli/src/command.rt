@@ -119,7 +119,8 @@ pub(crate) fn with_names<'a>(
 ) -> Result<Command<'a>, AllocError>
     ensures { (told : App) → IsMade command.entry told → IsMade result (with_names told) }
 {
-    let help = "Names of one's own: a file of lines such as `spn 110 coolant`";
+    let help =
+        "Names of one's own: a file of lines such as `spn 110 coolant` or `group 65280 lights`";
     with_option(alloc, command, "names", "FILE", false, help)
 }
 

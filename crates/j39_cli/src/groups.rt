@@ -24,11 +24,12 @@ Writes what a report may hold: a line for each parameter, with eight columns.
   SPN     of the parameter
   place   4-5 are bytes of the payload, 1.3-4 bits of a byte, 4.7-5.2 bits of two;
           *2 is the second of the texts between the bytes `*`, and 2- the texts
-          from a byte on
+          from a byte on; s behind it is of a signed number, u of one without
+          raw numbers that are no values
   scale   what one raw step is worth
   offset  the value of the raw number 0
   unit    of both, and of the report's value
-  name    of the parameter, to the end of the line
+  name    of the parameter, and behind ` = ` those of its states
 Switches and texts have dashes for scale, offset and unit.";
 
 const HELP: &str = "\

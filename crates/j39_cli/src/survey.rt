@@ -20,13 +20,14 @@ use std::alloc::{AllocError, Global};
 const ABOUT: &str = "\
 Writes what a log is: how many lines it has; for each of the first sixteen
 interfaces its frames, its first and last stamp, and how often a stamp is below
-the one before (back); for each group (PGN) of one interface its frames, how many
-messages in packets were announced and came whole, from how many controllers'
-addresses, and how far apart it came, in seconds, with the time since when it stayed
-away the longest; whether a report reads it (read), the network needs it (network) or
-neither (not read), and its name; the lines that hold no such frame, by kind; and the
-lines that are unread, of which the first five are shown. With --csv and --json the
-column record says what a row is of.";
+the one before (back), and the frames of all others (elsewhere); for each group (PGN)
+of one interface its frames, how many messages in packets were announced and came
+whole, from how many controllers' addresses, and how far apart its frames, or
+announcements, came, in seconds, with the time since when it stayed away the longest;
+whether a report reads it (read), the network needs it (network) or neither (not read:
+fault codes are read by `j1939 faults`), and its name; the lines that hold no such
+frame, by kind; and the lines that are unread, of which the first five are shown. With
+--csv and --json the column record says what a row is of.";
 
 const HELP: &str = "\
 Example:
