@@ -286,7 +286,7 @@ static int32_t end_at(j1939_handle *handle, int32_t answer) {
     return leave(answer);
 }
 
-/* At most so many messages are open at once. */
+/* At most so many messages are open at once, or handed out. */
 enum { MANY = 271 };
 
 static int32_t close_handle(j1939_handle *handle) {

@@ -417,8 +417,8 @@ typedef struct {
 /* clang-format on */
 
 /* How many bytes .._at wants for each kind of handle, wherever they begin; .._size answers the same of the library that a program is
- * linked with. A listener's and an assembler's have room for so many messages in packets that are open at once, at most 271; a
- * sender's for so many bytes of a message, a controller's for so many broadcasts and sessions. No call with such a handle takes
+ * linked with. A listener's and an assembler's have room for so many messages in packets that are open at once, the one handed out
+ * last among them, at most 271; a sender's for so many bytes of a message, a controller's for so many broadcasts and sessions. No call with such a handle takes
  * other memory. */
 /* clang-format off */
 #define J1939_LISTENER_SIZE(messages) (6720 + 1824 * (size_t)(messages))
@@ -659,8 +659,8 @@ int32_t j1939_controller_claims_request(const j1939_controller *controller, uint
  * @return 0, 1, J1939_NO_PART */
 int32_t j1939_controller_next_due(const j1939_controller *controller, uint64_t *due);
 
-/** How far it is with its address at the moment of the last call: J1939_IDLE (its first claim wasn't taken),
- * J1939_CLAIMING, J1939_HOLDING, J1939_CANNOT (it was lost), and the address, 254 where there is none.
+/** How far it is with its address at the moment of the last call: J1939_IDLE (its claim, the first or one
+ * after .._again or .._move_to, wasn't taken yet), J1939_CLAIMING, J1939_HOLDING, J1939_CANNOT (it was lost), and the address, 254 where there is none.
  * @return 0 to 3, J1939_NO_PART */
 int32_t j1939_controller_status(const j1939_controller *controller, uint8_t *address);
 

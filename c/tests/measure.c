@@ -70,6 +70,16 @@ static void controller_send(void) {
     EXPECT(j1939_controller_take_ended(&controller, &ended) == J1939_ENDED_MESSAGE);
 }
 static void controller_frame(void) { EXPECT(j1939_controller_take_frame(&controller, 5, &out) >= 0); }
+static uint64_t token;
+static void controller_broadcast(void) {
+    EXPECT(j1939_controller_broadcast(&controller, 300000, 65260, payload, sizeof payload, &token) == 1);
+}
+static void controller_transfer(void) {
+    EXPECT(j1939_controller_transfer(&controller, 300000, 61184, 9, payload, sizeof payload, &token) == 1);
+}
+static const j1939_frame rts = {.micros = 1, .id = 0x1CEC0307, .len = 8, .data = {0x10, 20, 0, 3, 0xFF, 0, 0xEF, 0}};
+static void controller_hear_rts(void) { EXPECT(j1939_controller_hear(&controller, &rts, 300000) == 0); }
+static void controller_take(void) { EXPECT(j1939_controller_take_frame(&controller, 300000, &out) == 1); }
 static void close_listener(void) { EXPECT(j1939_listener_close(&listener) == 0); }
 static void close_assembler(void) { EXPECT(j1939_assembler_close(&assembler) == 0); }
 static void close_receiver(void) { EXPECT(j1939_receiver_close(&receiver) == 0); }
@@ -136,7 +146,7 @@ static double clock_now(void) {
 static void measure(const char *name, void (*call)(void), long times) {
     size_t before = taken;
     size_t touched = stack_of(call);
-    printf("%-18s memory %5lu  stack %5lu", name, (unsigned long)(taken - before), (unsigned long)touched);
+    printf("%-20s memory %5lu  stack %5lu", name, (unsigned long)(taken - before), (unsigned long)touched);
     double from = clock_now();
     for (long i = 0; i < times; i++) call();
     if (times) printf("  %6.0f %s", (clock_now() - from) / (double)times, unit);
@@ -168,6 +178,10 @@ int main(void) {
     measure("controller_hear", controller_hear, MANY);
     measure("  heard, taken", controller_hear_other, MANY);
     measure("  sent, taken", controller_send, MANY);
+    measure("  RTS heard", controller_hear_rts, 0);
+    measure("controller_broadcast", controller_broadcast, 0);
+    measure("controller_transfer", controller_transfer, 0);
+    measure("  taken", controller_take, 0);
     measure("listener_close", close_listener, 0);
     measure("assembler_close", close_assembler, 0);
     measure("receiver_close", close_receiver, 0);

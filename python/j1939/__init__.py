@@ -90,7 +90,11 @@ class _Handle(ctypes.Structure):
 def _load() -> ctypes.CDLL:
     """The library that J1939_SHARED names, or the one beside this file, or the one that is installed."""
     beside = Path(__file__).with_name("libj1939.so")
-    library = ctypes.CDLL(os.environ.get("J1939_SHARED") or (str(beside) if beside.exists() else "libj1939.so.0.2"))
+    name = os.environ.get("J1939_SHARED") or (str(beside) if beside.exists() else "libj1939.so.0.2")
+    try:
+        library = ctypes.CDLL(name)
+    except OSError as fault:
+        raise ImportError(f"{fault}; J1939_SHARED names the library (c/build/libj1939.so of `make -C c`)") from fault
     # size_t is wider than what ctypes takes a number for, and an identifier isn't signed.
     pointer, size, word = ctypes.c_void_p, ctypes.c_size_t, ctypes.c_uint32
     library.j1939_table_init.argtypes = [pointer, ctypes.c_char_p, size, pointer]
