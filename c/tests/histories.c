@@ -7,7 +7,7 @@
 #include <inttypes.h>
 #include <string.h>
 
-enum { OWN = 0x80, OTHER = 0x90, THIRD = 0x30, GAP = 50000, T1 = 750000, T3 = 1250000, CLAIM = 250000, DM1 = 0xFECA };
+enum { OWN = 0x80, OTHER = 0x90, THIRD = 0x30, GAP = 50000, T3 = 1250000, CLAIM = 250000, DM1 = 0xFECA };
 
 static uint64_t state, now;
 static j1939_controller first, second;

@@ -1,4 +1,4 @@
-//! The bytes of a controller, as docs/CONTROLLER.md and the README of `j39_node` state them, and of the parts by themselves.
+//! The bytes of a controller, as the C header states them, and of the parts by themselves.
 use j39_address::{Claimer, Claims};
 use j39_node::Controller;
 use j39_transport::{Assembler, Broadcast, OwnedSender, Receiver, Sender};
