@@ -4,7 +4,6 @@ use Rattle.std.specs.Prelude.{nat_le, filter, slice_get, if◌then◌else◌, Op
 use Rattle.std.specs.List.{filter_map, Contains, All, list_all, list_any}
 use Rattle.std.proofs.lemmas.Bool.{and_parts, cases_Bool, leb-true, eq-eqb, ne_eqb, false≢true}
 use Rattle.std.proofs.lemmas.List.Sums.{AllPass-from_list_all, sum_by_more_le}
-
 use Rattle.std.proofs.lemmas.List.Elements.{All-contains, All-head, All-tail}
 use Rattle.j39_groups.specs.declared.row.Row.{Row}
 use Rattle.j39_groups.specs.Row.{RowRecord}
