@@ -1,8 +1,9 @@
 //! What is written of a log by a table.
-ghost use Rattle.std.specs.Prelude.{◌≡◌};
+ghost use Rattle.std.specs.Prelude.{◌≡◌, [], None};
 ghost use Rattle.j39_io.specs.Turn.{turn};
 ghost use Rattle.j39_listen.specs.Ran.{Ran};
 ghost use Rattle.j39_fault_reports.specs.Broken.{counts_in};
+ghost use Rattle.j39_fault_reports.specs.declared.fault_news.telling.Telling.TheVariants.{News};
 ghost use Rattle.j39_web.specs.Writings.{asks, makes};
 
 use crate::points::SeriesOrigin;
@@ -56,21 +57,32 @@ impl Writing {
                 summary(alloc, summed, source, sink, bus, limit)
             }
             Writing::Faults => {
+                let naming = Naming::by_table(groups);
+                let spns: Option<&[u32]> = None;
                 let writing = j39_fault_reports::Writing {
                     form: Format::Line(Clock::Seconds),
-                    naming: &Naming::by_table(groups),
-                    spns: None,
+                    naming: &naming,
+                    spns,
                 };
-                let choice = Choice {
-                    telling: Telling::News,
-                    conversions: &[],
-                    filter,
-                };
+                let choice = all_news();
                 let told = FaultsWanted { writing, choice };
                 counts_of(faults(alloc, told, source, sink, bus, limit))
             }
             Writing::Series(of) => series(alloc, groups, of, source, sink, bus, limit),
         }
+    }
+}
+
+/// The news of all faults, by no versions of the conversion.
+fn all_news() -> Choice<'static>
+    ensures telling { result.telling ≡ News }
+    ensures conversions { result.conversions.now ≡ [] }
+    ensures filter { result.filter ≡ None }
+{
+    Choice {
+        telling: Telling::News,
+        conversions: &[],
+        filter: None,
     }
 }
 
