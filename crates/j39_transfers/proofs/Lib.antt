@@ -1,0 +1,6 @@
+-- the names that proofs here cite
+pub mod Common
+-- boxes in their lists
+pub mod BoxLemmas
+-- what one transfer does
+pub mod RunningLemmas
