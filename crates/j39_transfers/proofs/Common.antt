@@ -9,9 +9,10 @@ pub use Rattle.std.specs.Option.{is_some as has_some, option_map}
 pub use Rattle.j39_address.specs.Claims.{holder_in}
 pub use Rattle.j39_address.specs.Name.{name_raw}
 pub use Rattle.j39_frame.specs.Frame.{FrameRecord}
+pub use Rattle.j39_frame.specs.Identifier.{source_of}
 pub use Rattle.j39_frame.specs.Pgn.{pgn_raw}
 pub use Rattle.j39_frame.specs.Stamp.{stamp_micros}
 pub use Rattle.j39_transport.specs.Cutting.{to_send, ToSend}
-pub use Rattle.j39_transfers.specs.Transfers.{answer, awake, begins, begun, breaks, can_begin, due_in, ending, frame_of, goes, gives_up, has_room, hears, hears_in, is_due, is_first, is_open, is_over, is_resting, leaves, leaves_in, listed, loses, none_of, of, Order, others, Rest, rest_of, said, sends, sends_in, signal_by, sooner, soonest, tells, told, Transfer, TransfersRecord, turn, urgency, urgency_in}
+pub use Rattle.j39_transfers.specs.Transfers.{answer, awake, begins, begun, breaks, can_begin, due_in, ending, frame_of, goes, gives_up, has_room, hears, hears_in, is_due, is_first, is_left, is_open, is_over, is_resting, is_spent, leaves, leaves_in, listed, listens, loses, none_of, of, Order, others, Rest, rest_of, said, sends, sends_in, signal_by, sooner, soonest, tells, to, told, Transfer, TransfersRecord, turn, urgency, urgency_in}
 pub use Rattle.j39_transfers.specs.Boxes.{in_box, order_of, rest_by, transfer_in}
 pub use Rattle.j39_transfers.specs.Shown.{transfers_of}

@@ -4,3 +4,6 @@ pub mod Common
 pub mod BoxLemmas
 -- what one transfer does
 pub mod RunningLemmas
+pub mod StepLemmas
+-- and what all that they went through leaves
+pub mod LawLemmas

@@ -2,6 +2,9 @@
 pub mod Common
 -- what frames, time and claims make of the transfers of an address
 pub mod Transfers
+-- and over what they went through
+pub mod Events
+pub mod Course
 -- what the code has
 pub mod Boxes
 pub mod Shown

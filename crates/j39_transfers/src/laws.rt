@@ -1,0 +1,46 @@
+//! What transfers promise over all that they went through.
+ghost use Rattle.std.specs.Prelude.{◌≡◌, ◌≢◌, ◌⊎◌, ◌+◌, ◌*◌, ◌++◌, ◌<◌, ◌≤◌, ◌∷◌, ℕ, List, Option, Some, None, IsTrue, length, true, false};
+ghost use Rattle.std.specs.List.{All, find};
+ghost use Rattle.std.specs.Option.{is_some, option_map};
+ghost use Rattle.j39_frame.specs.Frame.{FrameRecord};
+ghost use Rattle.j39_frame.specs.Identifier.{source_of};
+ghost use Rattle.j39_transport.specs.Message.{packets_of};
+ghost use Rattle.j39_transfers.specs.Course.{Course, due_by, longest};
+ghost use Rattle.j39_transfers.specs.Events.{AreApart, Event, IsBy, PassesBy, Sends, Tells, after, begun_tokens, goes_to, is_before, times, told_tokens, tokens};
+ghost use Rattle.j39_transfers.specs.Transfers.{awake, begins, begun, breaks, frame_of, hears, hears_in, is_due, is_over, is_resting, leaves, leaves_in, listens, loses, of, Order, rest_time, rests, said, sends, sends_in, soonest, tells, to, turn, Transfer, TransfersRecord};
+
+/// To each destination one is open at most, and of the boxes no more are in use than there are; twice as many pairs rest or may yet.
+#[tactic(auto, using(crate::proofs::LawLemmas::each_apart, crate::proofs::LawLemmas::all_fit))]
+pub fn one_to_each()
+    ensures one { (own boxes : ℕ) (E : List Event) → AreApart (after own boxes E).running }
+    ensures fit { (own boxes : ℕ) (E : List Event) → length (after own boxes E).running ≤ boxes }
+    ensures rest { (own boxes : ℕ) (E : List Event) → length (after own boxes E).rests + length (after own boxes E).running ≤ 2 * boxes }
+{}
+
+/// As often as a token began, it was told, or is open.
+#[tactic(auto, using(crate::proofs::LawLemmas::all_accounted))]
+pub fn accounted()
+    ensures { (own boxes k : ℕ) (E : List Event) → times k (begun_tokens own boxes E)
+        ≡ times k (told_tokens own boxes E) + times k (tokens (after own boxes E).running) }
+{}
+
+/// A frame of another leaves a transfer, whatever it says; and what is sent, told or begun to one address leaves those to others.
+#[tactic(auto, using(crate::proofs::LawLemmas::of_another, crate::proofs::LawLemmas::sent_another, crate::proofs::LawLemmas::told_another, crate::proofs::LawLemmas::begun_another))]
+pub fn strangers()
+    ensures heard { (s : TransfersRecord) (now a : ℕ) (f : FrameRecord) → source_of f.id ≢ a → of a (hears f now s).running ≡ of a s.running }
+    ensures sent { (s : TransfersRecord) (now a : ℕ) (y : Transfer) → turn now s.running ≡ Some y → to y ≢ a
+        → of a (sends now s).running ≡ of a s.running }
+    ensures told { (s : TransfersRecord) (a : ℕ) (y : Transfer) → find is_over s.running ≡ Some y → to y ≢ a
+        → of a (tells s).running ≡ of a s.running }
+    ensures begun { (s : TransfersRecord) (now a : ℕ) (o : Order) (name : Option ℕ) → o.to ≢ a → of a (begins o name now s).running ≡ of a s.running }
+{}
+
+/// To its own transfer a frame or a claim does what it does to one that has no other beside it; so does the frame that it sends.
+#[tactic(auto, using(crate::proofs::LawLemmas::its_heard, crate::proofs::LawLemmas::its_left, crate::proofs::LawLemmas::its_sent))]
+pub fn as_if_alone()
+    ensures heard { (s : TransfersRecord) (now a : ℕ) (f : FrameRecord) → of a (hears f now s).running ≡ option_map (hears_in f now) (of a s.running) }
+    ensures left { (s : TransfersRecord) (now a : ℕ) (gone : Option ℕ) (holder : ℕ → Option ℕ)
+        → of a (leaves gone holder now s).running ≡ option_map (leaves_in gone holder now) (of a s.running) }
+    ensures sent { (own boxes now : ℕ) (E : List Event) (y : Transfer) → turn now (after own boxes E).running ≡ Some y
+        → of (to y) (sends now (after own boxes E)).running ≡ Some (sends_in now y) }
+{}
