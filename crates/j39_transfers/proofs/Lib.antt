@@ -7,3 +7,5 @@ pub mod RunningLemmas
 pub mod StepLemmas
 -- and what all that they went through leaves
 pub mod LawLemmas
+pub mod TurnLemmas
+pub mod DueLemmas

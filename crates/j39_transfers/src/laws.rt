@@ -44,3 +44,30 @@ pub fn as_if_alone()
     ensures sent { (own boxes now : ℕ) (E : List Event) (y : Transfer) → turn now (after own boxes E).running ≡ Some y
         → of (to y) (sends now (after own boxes E)).running ≡ Some (sends_in now y) }
 {}
+
+/// Of those that send a frame one goes first that has the smallest priority number; none goes only where none sends one.
+#[tactic(auto, using(crate::proofs::TurnLemmas::most_urgent, crate::proofs::TurnLemmas::first_due, crate::proofs::DueLemmas::none_due))]
+pub fn urgent_first()
+    ensures urgent { (now a : ℕ) (xs : List Transfer) (y x : Transfer) → turn now xs ≡ Some y → of a xs ≡ Some x → is_due now x ≡ true
+        → y.priority ≤ x.priority }
+    ensures due { (now : ℕ) (xs : List Transfer) (y : Transfer) → turn now xs ≡ Some y → is_due now y ≡ true }
+    ensures none { (now a : ℕ) (xs : List Transfer) (x : Transfer) → turn now xs ≡ None → of a xs ≡ Some x → is_due now x ≡ false }
+{}
+
+/// No destination waits for more than one frame of each other: behind a frame to another none goes there again, of its priority number or
+/// a larger one, before one to this destination, if that is due and its end isn't told meanwhile.
+#[tactic(auto, using(crate::proofs::TurnLemmas::by_turns))]
+pub fn by_turns()
+    ensures { (own boxes now when a : ℕ) (later E : List Event) (x y z : Transfer) → turn now (after own boxes E).running ≡ Some y → to y ≢ a
+        → is_some (of a (after own boxes E).running) ≡ true → PassesBy own boxes a later (Sends now ∷ E)
+        → of a (after own boxes (later ++ Sends now ∷ E)).running ≡ Some x → is_due when x ≡ true → x.priority ≤ z.priority
+        → turn when (after own boxes (later ++ Sends now ∷ E)).running ≡ Some z → to z ≢ to y }
+{}
+
+/// In so long a frame is due, if nothing is heard till then, and not before; where it says nothing, none will be.
+#[tactic(auto, using(crate::proofs::DueLemmas::none_before, crate::proofs::DueLemmas::one_then, crate::proofs::DueLemmas::none_ever))]
+pub fn due_in_means()
+    ensures before { (s : TransfersRecord) (now later d : ℕ) → soonest now s.running ≡ Some d → now ≤ later → later < now + d → said later s ≡ None }
+    ensures due { (s : TransfersRecord) (now d : ℕ) → soonest now s.running ≡ Some d → is_some (said (now + d) s) ≡ true }
+    ensures never { (s : TransfersRecord) (now later : ℕ) → soonest now s.running ≡ None → now ≤ later → said later s ≡ None }
+{}
