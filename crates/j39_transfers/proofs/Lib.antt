@@ -9,3 +9,4 @@ pub mod StepLemmas
 pub mod LawLemmas
 pub mod TurnLemmas
 pub mod DueLemmas
+pub mod RestLemmas

@@ -1,8 +1,8 @@
 -- What the transfers of an address went through, the newest first.
-use Rattle.std.specs.Prelude.{if◌then◌else◌, ◌++◌, ◌+◌, ◌∷◌, ◌≡◌, ◌≢◌, ◌≤◌}
+use Rattle.std.specs.Prelude.{if◌then◌else◌, ◌++◌, ◌+◌, ◌<◌, ◌∷◌, ◌≡◌, ◌≢◌, ◌≤◌}
 use Rattle.j39_transfers.specs.Common.{[], Bool, Err, false, find, FrameRecord, is_there, List, map, nat_eq, None, Ok, Option, option_map, Result, Some, true, ℕ}
 use Rattle.j39_transfers.specs.declared.kinds.Refused.{Refused}
-use Rattle.j39_transfers.specs.Transfers.{answer, awake, begins, end_by, hears, is_over, leaves, listed, loses, moves, none_of, of, Order, sends, tells, to, Transfer, TransfersRecord, turn}
+use Rattle.j39_transfers.specs.Transfers.{answer, awake, begins, end_by, hears, is_over, leaves, listed, loses, moves, none_of, of, Order, rest_time, rests, sends, tells, to, Transfer, TransfersRecord, turn}
 
 -- a message is to be sent to an address that a NAME holds, at a time; a frame was heard; the frame that goes first was sent; an end was
 -- told; who left by who holds which address; the address was lost; another one sends
@@ -96,3 +96,13 @@ PassesBy own boxes a (event ∷ later) E = Passes a event (after own boxes (late
 abbrev pub IsBy : ℕ → Event → Type 0
 IsBy now (Begins o name moment) = moment ≤ now
 IsBy now event = Unit {0}
+
+abbrev pub AreBy : ℕ → List Event → Type 0
+AreBy now [] = Unit {0}
+AreBy now (event ∷ later) = IsBy now event × AreBy now later
+
+-- the end was told of one to this address, of this group, that rests by it, less than 4 seconds ago
+pub data WasTold (own boxes now a group : ℕ) : List Event → Type 0 where
+  here : (x : Transfer) (E : List Event) → find is_over (after own boxes E).running ≡ Some x → rests x ≡ true → to x ≡ a
+      → x.sender.message.pgn ≡ group → now < x.last + rest_time → WasTold own boxes now a group (Tells ∷ E)
+  later : (event : Event) (E : List Event) → WasTold own boxes now a group E → WasTold own boxes now a group (event ∷ E)

@@ -6,7 +6,7 @@ ghost use Rattle.j39_frame.specs.Frame.{FrameRecord};
 ghost use Rattle.j39_frame.specs.Identifier.{source_of};
 ghost use Rattle.j39_transport.specs.Message.{packets_of};
 ghost use Rattle.j39_transfers.specs.Course.{Course, due_by, longest};
-ghost use Rattle.j39_transfers.specs.Events.{AreApart, Event, IsBy, PassesBy, Sends, Tells, after, begun_tokens, goes_to, is_before, times, told_tokens, tokens};
+ghost use Rattle.j39_transfers.specs.Events.{AreApart, AreBy, Event, PassesBy, Sends, Tells, WasTold, after, begun_tokens, goes_to, is_before, times, told_tokens, tokens};
 ghost use Rattle.j39_transfers.specs.Transfers.{awake, begins, begun, breaks, frame_of, hears, hears_in, is_due, is_over, is_resting, leaves, leaves_in, listens, loses, of, Order, rest_time, rests, said, sends, sends_in, soonest, tells, to, turn, Transfer, TransfersRecord};
 
 /// To each destination one is open at most, and of the boxes no more are in use than there are; twice as many pairs rest or may yet.
@@ -70,4 +70,14 @@ pub fn due_in_means()
     ensures before { (s : TransfersRecord) (now later d : ℕ) → soonest now s.running ≡ Some d → now ≤ later → later < now + d → said later s ≡ None }
     ensures due { (s : TransfersRecord) (now d : ℕ) → soonest now s.running ≡ Some d → is_some (said (now + d) s) ≡ true }
     ensures never { (s : TransfersRecord) (now later : ℕ) → soonest now s.running ≡ None → now ≤ later → said later s ≡ None }
+{}
+
+/// One that rests by its end does so till 4 s are over, from its end on, whatever comes between; and no other rests.
+#[tactic(auto, using(crate::proofs::RestLemmas::it_rests, crate::proofs::RestLemmas::comes_from))]
+pub fn rests_mean()
+    ensures rests { (own boxes now : ℕ) (later E : List Event) (x : Transfer) → find is_over (after own boxes E).running ≡ Some x → rests x ≡ true
+        → now < x.last + rest_time → AreBy now later
+        → is_resting (to x) x.sender.message.pgn (awake now (after own boxes (later ++ Tells ∷ E))).rests ≡ true }
+    ensures only { (own boxes now a group : ℕ) (E : List Event) → is_resting a group (awake now (after own boxes E)).rests ≡ true
+        → WasTold own boxes now a group E }
 {}
