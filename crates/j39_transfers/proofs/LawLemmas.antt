@@ -116,6 +116,9 @@ chosen false false true d x y z w u e = absurd (cc)
 chosen false false false true x y z w u e = (refl, refl)
 chosen false false false false x y z w u e = absurd (cc)
 
+pub answered : (o : Order) (s : TransfersRecord) (u : Unit {0}) → answer o s ≡ Ok u → (is_open o.to s.running ≡ false) × (has_room s ≡ true)
+answered o s u e = chosen (not (can_begin s.own o)) (is_open o.to s.running) (is_resting o.to o.group s.rests) (has_room s) BadValue Busy Resting Full u e
+
 pub begun_split : (P : TransfersRecord → Type 0) (o : Order) (name : Option ℕ) (now : ℕ) (s : TransfersRecord) → P (awake now s)
     → (is_open o.to s.running ≡ false → has_room (awake now s) ≡ true → P (record (awake now s) { running = s.running ++ begun s.own o name now ∷ [] }))
     → P (begins o name now s)
@@ -123,7 +126,7 @@ begun_split P o name now s stays adds = go (answer o (awake now s)) refl
   where
     go : (r : Result Unit Refused) → answer o (awake now s) ≡ r → P (begun_if r (begun s.own o name now) (awake now s))
     go (Ok u) e =
-        let h = chosen (not (can_begin s.own o)) (is_open o.to s.running) (is_resting o.to o.group (awake now s).rests) (has_room (awake now s)) BadValue Busy Resting Full u e in
+        let h = answered o (awake now s) u e in
         adds h.0 h.1
     go (Err x) e = stays
 

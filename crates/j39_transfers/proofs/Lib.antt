@@ -10,3 +10,4 @@ pub mod LawLemmas
 pub mod TurnLemmas
 pub mod DueLemmas
 pub mod RestLemmas
+pub mod CourseLemmas

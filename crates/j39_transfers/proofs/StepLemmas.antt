@@ -52,7 +52,7 @@ pub unsaid : (s d : ℕ) (f : FrameRecord) → source_of f.id ≢ s → said_bet
 unfolding said_between frames.source_of
 unsaid s d f n = let e = ne_eqb (source_of f.id) s n in grind (arith, e)
 
-not_ended : (st : SendState) (b : Option Ending) → has_some (ending_by st b) ≡ false → is_ended st ≡ false
+pub not_ended : (st : SendState) (b : Option Ending) → has_some (ending_by st b) ≡ false → is_ended st ≡ false
 not_ended st b e = grind (arith, e)
 
 nothing_heard : (f : FrameRecord) (now : ℕ) (x : Transfer) → said_between x.sender.destination x.sender.message.source f ≡ None → is_over x ≡ false → listens f now x ≡ x

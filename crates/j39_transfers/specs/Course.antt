@@ -1,7 +1,8 @@
 -- A transfer whose frames are sent in time.
-use Rattle.std.specs.Prelude.{if◌then◌else◌, ◌*◌, ◌+◌, ◌≡◌, ◌≤◌}
-use Rattle.j39_transfers.specs.Common.{Done, Failed, false, FrameRecord, Idle, Option, packets_of, Sending, SendState, timer_t3, true, Waiting, ℕ}
-use Rattle.j39_transfers.specs.Transfers.{begun, breaks, gives_up, hears_in, is_due, is_over, leaves_in, Order, sends_in, Transfer}
+use Rattle.std.specs.Prelude.{if◌then◌else◌, ◌*◌, ◌++◌, ◌+◌, ◌∷◌, ◌≡◌, ◌≢◌, ◌≤◌}
+use Rattle.j39_transfers.specs.Common.{[], Done, Failed, false, FrameRecord, Idle, IfSome, List, Option, Sending, Some, SendState, timer_t3, true, Waiting, ℕ}
+use Rattle.j39_transfers.specs.Transfers.{begun, breaks, gives_up, hears_in, is_due, is_over, leaves_in, of, Order, sends_in, Transfer, TransfersRecord}
+use Rattle.j39_transfers.specs.Events.{after, ends_to, Event, Hears, Sends, Tells}
 use Rattle.j39_transfers.specs.declared.kinds.Ending.TheVariants as how
 
 -- the moment from which on it sends a frame, if nothing is heard; that of a CTS behind which it gives up
@@ -33,3 +34,14 @@ round g n = timer_t3 + (n + 1) * g
 
 abbrev pub longest : ℕ → ℕ → ℕ
 longest g n = timer_t3 + 2 * g + (n + 65) * round g n
+
+-- behind what is heard and sent it is in time, and its end isn't told
+abbrev pub IsPrompt : ℕ → ℕ → Event → TransfersRecord → Type 0
+IsPrompt g a (Hears f now) s = IfSome (of a s.running) (IsInTime g now)
+IsPrompt g a (Sends now) s = IfSome (of a s.running) (IsInTime g now)
+IsPrompt g a Tells s = ends_to s ≢ Some a
+IsPrompt g a event s = Unit {0}
+
+abbrev pub ArePrompt : ℕ → ℕ → ℕ → ℕ → List Event → List Event → Type 0
+ArePrompt own boxes g a [] E = Unit {0}
+ArePrompt own boxes g a (event ∷ later) E = IsPrompt g a event (after own boxes (later ++ E)) × ArePrompt own boxes g a later E

@@ -1,13 +1,13 @@
 //! What transfers promise over all that they went through.
-ghost use Rattle.std.specs.Prelude.{◌≡◌, ◌≢◌, ◌⊎◌, ◌+◌, ◌*◌, ◌++◌, ◌<◌, ◌≤◌, ◌∷◌, ℕ, List, Option, Some, None, IsTrue, length, true, false};
+ghost use Rattle.std.specs.Prelude.{◌≡◌, ◌≢◌, ◌⊎◌, ◌+◌, ◌*◌, ◌++◌, ◌<◌, ◌≤◌, ◌∷◌, ℕ, List, Option, Some, None, Ok, IsTrue, length, true, false};
 ghost use Rattle.std.specs.List.{All, find};
 ghost use Rattle.std.specs.Option.{is_some, option_map};
 ghost use Rattle.j39_frame.specs.Frame.{FrameRecord};
 ghost use Rattle.j39_frame.specs.Identifier.{source_of};
 ghost use Rattle.j39_transport.specs.Message.{packets_of};
-ghost use Rattle.j39_transfers.specs.Course.{Course, due_by, longest};
-ghost use Rattle.j39_transfers.specs.Events.{AreApart, AreBy, Event, PassesBy, Sends, Tells, WasTold, after, begun_tokens, goes_to, is_before, times, told_tokens, tokens};
-ghost use Rattle.j39_transfers.specs.Transfers.{awake, begins, begun, breaks, frame_of, hears, hears_in, is_due, is_over, is_resting, leaves, leaves_in, listens, loses, of, Order, rest_time, rests, said, sends, sends_in, soonest, tells, to, turn, Transfer, TransfersRecord};
+ghost use Rattle.j39_transfers.specs.Course.{ArePrompt, Course, due_by, longest};
+ghost use Rattle.j39_transfers.specs.Events.{AreApart, AreBy, Begins, Event, PassesBy, Sends, Tells, WasTold, after, begun_tokens, goes_to, is_before, times, told_tokens, tokens};
+ghost use Rattle.j39_transfers.specs.Transfers.{answer, awake, begins, begun, breaks, frame_of, hears, hears_in, is_due, is_over, is_resting, leaves, leaves_in, listens, loses, of, Order, rest_time, rests, said, sends, sends_in, soonest, tells, to, turn, Transfer, TransfersRecord};
 
 /// To each destination one is open at most, and of the boxes no more are in use than there are; twice as many pairs rest or may yet.
 #[tactic(auto, using(crate::proofs::LawLemmas::each_apart, crate::proofs::LawLemmas::all_fit))]
@@ -80,4 +80,15 @@ pub fn rests_mean()
         → is_resting (to x) x.sender.message.pgn (awake now (after own boxes (later ++ Tells ∷ E))).rests ≡ true }
     ensures only { (own boxes now a group : ℕ) (E : List Event) → is_resting a group (awake now (after own boxes E)).rests ≡ true
         → WasTold own boxes now a group E }
+{}
+
+/// It ends in time: if each frame of a transfer of n packets is sent at most g after it is due, and nothing is heard later, it is over
+/// within 1,250 ms + 2 g + (n + 65) (1,250 ms + (n + 1) g) of its beginning, whatever is heard: a frame of it isn't due later.
+#[tactic(auto, using(crate::proofs::CourseLemmas::on_course, crate::proofs::CourseLemmas::ends_soon))]
+pub fn ends_in_time()
+    ensures course { (own boxes g start : ℕ) (o : Order) (name : Option ℕ) (u : Unit {0}) (later E : List Event)
+        → answer o (awake start (after own boxes E)) ≡ Ok u → ArePrompt own boxes g o.to later (Begins o name start ∷ E)
+        → (x : Transfer) × (of o.to (after own boxes (later ++ Begins o name start ∷ E)).running ≡ Some x) × Course g start x }
+    ensures bound { (g start : ℕ) (x : Transfer) → Course g start x → is_over x ≡ false
+        → due_by x + g ≤ start + longest g (packets_of x.sender.message) }
 {}
