@@ -20,11 +20,12 @@ use Rattle.j39_transfers.proofs.StepLemmas.{keeps_broken, keeps_heard, keeps_lef
 
 -- ---- what a sender makes of what it hears, and up to which packet it is cleared
 
-data Hearing (s : SenderRecord) (now : ℕ) : SenderRecord → Option ℕ → Type 0 where
+pub data Hearing (s : SenderRecord) (now : ℕ) : SenderRecord → Option ℕ → Type 0 where
   same : Hearing s now s None
   over : (st : SendState) → is_ended st ≡ true → Hearing s now (record s { state = st }) None
   holds : is_waiting s.state ≡ true → Hearing s now (waits timer_t4 now s) (Some 0)
-  clears_to : (p q : ℕ) → is_waiting s.state ≡ true → 1 ≤ p → p ≤ q → q ≤ packets_of s.message → Hearing s now (record s { state = Sending p q }) (Some q)
+  clears_to : (p q : ℕ) → is_waiting s.state ≡ true → 1 ≤ p → p ≤ q → q ≤ packets_of s.message → p ≤ s.highest + 1
+      → Hearing s now (record s { state = Sending p q }) (Some q)
 
 hearing_clear : (s : SenderRecord) (now count next pgn : ℕ) → Hearing s now (hears (Some (ClearToSend count next pgn)) now s) (granted_by s (Some (ClearToSend count next pgn)))
 unfolding hears cleared
@@ -37,10 +38,10 @@ hearing_clear s now count next pgn = go (is_waiting s.state) (pgn == s.message.p
     go false true z m i j k = same
     go true false z m i j k = same
     go true true true m i j k = holds i
-    go true true false true i j k = clears_to next (min (next + count - 1) (packets_of s.message)) i (grind (arith, j, k)) (grind (arith, j, k)) (grind (arith, j, k))
+    go true true false true i j k = clears_to next (min (next + count - 1) (packets_of s.message)) i (grind (arith, j, k)) (grind (arith, j, k)) (grind (arith, j, k)) (grind (arith, j, k))
     go true true false false i j k = same
 
-hearing : (s : SenderRecord) (now : ℕ) (o : Option Signal) → Hearing s now (hears o now s) (granted_by s o)
+pub hearing : (s : SenderRecord) (now : ℕ) (o : Option Signal) → Hearing s now (hears o now s) (granted_by s o)
 unfolding hears acknowledged aborted
 hearing s now None = same
 hearing s now (Some (BroadcastAnnounce size packets pgn)) = same
@@ -235,7 +236,7 @@ module _ (g start : ℕ) (x : Transfer) (now : ℕ) (h : InCourse g start x) (o 
         ends = λ i l. f timer_t4 (in_wait limit.0 limit.1) (ends_wait limit.0 limit.1) c.1 (omega arith);
         gives = λ i l. (let m = f 0 (in_wait limit.0 limit.1) (ends_wait limit.0 limit.1) c.1 (omega arith) in omega (arith, m));
       }
-  heard_made r q (clears_to p e w a b d) =
+  heard_made r q (clears_to p e w a b d highest) =
       let limit = waiting_is x.sender.state w in
       let c = counted e x.granted x.spent n d h.granted not_spent in
       let k = h.granted in

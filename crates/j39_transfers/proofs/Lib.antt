@@ -11,3 +11,4 @@ pub mod TurnLemmas
 pub mod DueLemmas
 pub mod RestLemmas
 pub mod CourseLemmas
+pub mod OrderLemmas

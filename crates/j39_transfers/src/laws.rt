@@ -1,13 +1,17 @@
 //! What transfers promise over all that they went through.
-ghost use Rattle.std.specs.Prelude.{◌≡◌, ◌≢◌, ◌⊎◌, ◌+◌, ◌*◌, ◌++◌, ◌<◌, ◌≤◌, ◌∷◌, ℕ, List, Option, Some, None, Ok, IsTrue, length, true, false};
+ghost use Rattle.std.specs.Prelude.{◌≡◌, ◌≢◌, ◌⊎◌, ◌+◌, ◌*◌, ◌++◌, ◌<◌, ◌≤◌, ◌∷◌, ℕ, List, Option, Some, None, Ok, length, max, true, false};
 ghost use Rattle.std.specs.List.{All, find};
 ghost use Rattle.std.specs.Option.{is_some, option_map};
 ghost use Rattle.j39_frame.specs.Frame.{FrameRecord};
 ghost use Rattle.j39_frame.specs.Identifier.{source_of};
+ghost use Rattle.j39_transport.specs.Cutting.{packet_data};
 ghost use Rattle.j39_transport.specs.Message.{packets_of};
+ghost use Rattle.j39_transport.specs.Sending.{Idle, Sending, request_of};
+ghost use Rattle.j39_transport.specs.Signals.{Abort, Acknowledgment, Packet, said_between};
+ghost use Rattle.j39_transfers.specs.declared.kinds.Ending.TheVariants as how;
 ghost use Rattle.j39_transfers.specs.Course.{ArePrompt, Course, due_by, longest};
 ghost use Rattle.j39_transfers.specs.Events.{AreApart, AreBy, Begins, Event, PassesBy, Sends, Tells, WasTold, after, begun_tokens, goes_to, is_before, times, told_tokens, tokens};
-ghost use Rattle.j39_transfers.specs.Transfers.{answer, awake, begins, begun, breaks, frame_of, hears, hears_in, is_due, is_over, is_resting, leaves, leaves_in, listens, loses, of, Order, rest_time, rests, said, sends, sends_in, soonest, tells, to, turn, Transfer, TransfersRecord};
+ghost use Rattle.j39_transfers.specs.Transfers.{answer, awake, begins, ending, signal_by, hears, hears_in, is_due, is_over, is_resting, leaves, leaves_in, listens, loses, of, Order, rest_time, rests, said, sends, sends_in, soonest, tells, to, turn, Transfer, TransfersRecord};
 
 /// To each destination one is open at most, and of the boxes no more are in use than there are; twice as many pairs rest or may yet.
 #[tactic(auto, using(crate::proofs::LawLemmas::each_apart, crate::proofs::LawLemmas::all_fit))]
@@ -91,4 +95,31 @@ pub fn ends_in_time()
         → (x : Transfer) × (of o.to (after own boxes (later ++ Begins o name start ∷ E)).running ≡ Some x) × Course g start x }
     ensures bound { (g start : ℕ) (x : Transfer) → Course g start x → is_over x ≡ false
         → due_by x + g ≤ start + longest g (packets_of x.sender.message) }
+{}
+
+/// First the request to send goes, then the packets in order: a packet's number is at most one above the highest that went before.
+#[tactic(auto, using(crate::proofs::OrderLemmas::request_goes, crate::proofs::OrderLemmas::packet_goes, crate::proofs::OrderLemmas::packet_counts, crate::proofs::OrderLemmas::packet_next))]
+pub fn in_order()
+    ensures request { (now : ℕ) (x : Transfer) → x.broken ≡ None → x.sender.state ≡ Idle → signal_by now x ≡ Some (request_of x.sender.message) }
+    ensures packet { (now k last : ℕ) (x : Transfer) → x.broken ≡ None → x.spent ≤ 64 → x.sender.state ≡ Sending k last
+        → signal_by now x ≡ Some (Packet k (packet_data x.sender.message.bytes k)) }
+    ensures highest { (now k last : ℕ) (x : Transfer) → x.spent ≤ 64 → x.sender.state ≡ Sending k last
+        → (sends_in now x).sender.highest ≡ max x.sender.highest k }
+    ensures next { (own boxes a k last : ℕ) (E : List Event) (x : Transfer) → of a (after own boxes E).running ≡ Some x
+        → x.sender.state ≡ Sending k last → k ≤ x.sender.highest + 1 }
+{}
+
+/// It is done only by an acknowledgment of its size, packets and group behind its last packet, and failed by an abort that is heard or sent.
+#[tactic(auto, using(crate::proofs::OrderLemmas::done_heard, crate::proofs::OrderLemmas::done_last, crate::proofs::OrderLemmas::failed_by, crate::proofs::OrderLemmas::sent_failed, crate::proofs::OrderLemmas::sent_undone))]
+pub fn done_means()
+    ensures done { (f : FrameRecord) (now : ℕ) (x : Transfer) → is_over x ≡ false → ending (hears_in f now x) ≡ Some how.Done
+        → said_between x.sender.destination x.sender.message.source f
+        ≡ Some (Acknowledgment (length x.sender.message.bytes) (packets_of x.sender.message) x.sender.message.pgn) }
+    ensures last { (f : FrameRecord) (now : ℕ) (x : Transfer) → is_over x ≡ false → ending (hears_in f now x) ≡ Some how.Done
+        → x.sender.highest ≡ packets_of x.sender.message }
+    ensures failed { (f : FrameRecord) (now reason : ℕ) (x : Transfer) → is_over x ≡ false → ending (hears_in f now x) ≡ Some (how.Failed reason)
+        → said_between x.sender.destination x.sender.message.source f ≡ Some (Abort reason x.sender.message.pgn) }
+    ensures sent { (now reason : ℕ) (x : Transfer) → is_due now x ≡ true → ending (sends_in now x) ≡ Some (how.Failed reason)
+        → signal_by now x ≡ Some (Abort reason x.sender.message.pgn) }
+    ensures undone { (now : ℕ) (x : Transfer) → is_due now x ≡ true → ending (sends_in now x) ≢ Some how.Done }
 {}
