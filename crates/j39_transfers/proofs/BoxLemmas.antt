@@ -18,12 +18,6 @@ module _ {X Y : Type 0} (view : X → Y) (g : Y → Y) where
       let tail : map view xs ≡ map g (map view (take i init)) ++ map view (drop i init) = cc in
       ap₂ (λ (r : Y) (rs : List Y). r ∷ rs) head (met_at xs init i x d (omega arith) tail is)
 
-pub drop_all : {T : Type 0} (xs : List T) (k : ℕ) → length xs ≤ k → drop k xs ≡ []
-drop_all [] zero l = refl
-drop_all [] (suc k) l = refl
-drop_all (x ∷ xs) zero l = absurd (omega (arith, l))
-drop_all (x ∷ xs) (suc k) l = drop_all xs k (omega (arith, l))
-
 pub map_filter : {T U : Type 0} (v : T → U) (p : U → Bool) (xs : List T) → map v (filter (λ x. p (v x)) xs) ≡ filter p (map v xs)
 map_filter v p [] = refl
 map_filter v p (x ∷ xs) = let h = map_filter v p xs in grind (arith, h)
@@ -98,6 +92,3 @@ module _ (p : Transfer → Option ℕ) (soonest : List Transfer → Option ℕ) 
 
 pub sooner_of : (a b c : Option ℕ) → sooner (sooner a b) c ≡ sooner a (sooner b c)
 sooner_of a b c = grind arith
-
-pub sooner_none : (a : Option ℕ) → sooner a None ≡ a
-sooner_none a = grind arith

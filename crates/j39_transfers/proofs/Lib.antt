@@ -12,3 +12,4 @@ pub mod DueLemmas
 pub mod RestLemmas
 pub mod CourseLemmas
 pub mod OrderLemmas
+pub mod ExampleLemmas

@@ -38,7 +38,7 @@ module _ (now a g : ℕ) where
   stays_step (Hears f m) s l e = e
   stays_step (Sends m) s l e = e
   stays_step Tells s l e = any_left s.rests (listed (rest_by (find is_over s.running))) e
-  stays_step (Leaves gone holder m) s l e = e
+  stays_step (Leaves who holder m) s l e = e
   stays_step (Loses m) s l e = e
   stays_step (Moves own) s l e = cond_both (can_move own s) (record s { own = own }) s (λ (x : TransfersRecord). any_still x.rests ≡ true) (λ i. e) (λ i. e)
 
@@ -79,7 +79,7 @@ module _ (now a g : ℕ) where
           let x = one_still (find is_over (after own boxes E).running) k in
           let q = origin_of x.0 x.2 in
           events.here x.0 E x.1 q.0 q.1 q.2 q.3
-  was_told own boxes (Leaves gone holder m ∷ E) e = events.later (Leaves gone holder m) E (was_told own boxes E e)
+  was_told own boxes (Leaves who holder m ∷ E) e = events.later (Leaves who holder m) E (was_told own boxes E e)
   was_told own boxes (Loses m ∷ E) e = events.later (Loses m) E (was_told own boxes E e)
   was_told own boxes (Moves b ∷ E) e = events.later (Moves b) E (was_told own boxes E
       (cond_both (can_move b (after own boxes E)) (record (after own boxes E) { own = b }) (after own boxes E)

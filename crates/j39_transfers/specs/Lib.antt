@@ -5,6 +5,7 @@ pub mod Transfers
 -- and over what they went through
 pub mod Events
 pub mod Course
+pub mod Example
 -- what the code has
 pub mod Boxes
 pub mod Shown

@@ -1,5 +1,5 @@
 //! What transfers promise over all that they went through.
-ghost use Rattle.std.specs.Prelude.{◌≡◌, ◌≢◌, ◌⊎◌, ◌+◌, ◌*◌, ◌++◌, ◌<◌, ◌≤◌, ◌∷◌, ℕ, List, Option, Some, None, Ok, length, max, true, false};
+ghost use Rattle.std.specs.Prelude.{◌≡◌, ◌≢◌, ◌⊎◌, ◌+◌, ◌*◌, ◌++◌, ◌<◌, ◌≤◌, ◌∷◌, [], ℕ, List, Option, Some, None, Ok, length, max, true, false};
 ghost use Rattle.std.specs.List.{All, find};
 ghost use Rattle.std.specs.Option.{is_some, option_map};
 ghost use Rattle.j39_frame.specs.Frame.{FrameRecord};
@@ -11,6 +11,7 @@ ghost use Rattle.j39_transport.specs.Signals.{Abort, Acknowledgment, Packet, sai
 ghost use Rattle.j39_transfers.specs.declared.kinds.Ending.TheVariants as how;
 ghost use Rattle.j39_transfers.specs.Course.{ArePrompt, Course, due_by, longest};
 ghost use Rattle.j39_transfers.specs.Events.{AreApart, AreBy, Begins, Event, PassesBy, Sends, Tells, WasTold, after, begun_tokens, goes_to, is_before, times, told_tokens, tokens};
+ghost use Rattle.j39_transfers.specs.Example.{beginning, both, later, order};
 ghost use Rattle.j39_transfers.specs.Transfers.{answer, awake, begins, ending, signal_by, hears, hears_in, is_due, is_over, is_resting, leaves, leaves_in, listens, loses, of, Order, rest_time, rests, said, sends, sends_in, soonest, tells, to, turn, Transfer, TransfersRecord};
 
 /// To each destination one is open at most, and of the boxes no more are in use than there are; twice as many pairs rest or may yet.
@@ -90,8 +91,8 @@ pub fn rests_mean()
 /// within 1,250 ms + 2 g + (n + 65) (1,250 ms + (n + 1) g) of its beginning, whatever is heard: a frame of it isn't due later.
 #[tactic(auto, using(crate::proofs::CourseLemmas::on_course, crate::proofs::CourseLemmas::ends_soon))]
 pub fn ends_in_time()
-    ensures course { (own boxes g start : ℕ) (o : Order) (name : Option ℕ) (u : Unit {0}) (later E : List Event)
-        → answer o (awake start (after own boxes E)) ≡ Ok u → ArePrompt own boxes g o.to later (Begins o name start ∷ E)
+    ensures course { (own boxes g start : ℕ) (o : Order) (name : Option ℕ) (later E : List Event)
+        → answer o (awake start (after own boxes E)) ≡ Ok tt → ArePrompt own boxes g o.to later (Begins o name start ∷ E)
         → (x : Transfer) × (of o.to (after own boxes (later ++ Begins o name start ∷ E)).running ≡ Some x) × Course g start x }
     ensures bound { (g start : ℕ) (x : Transfer) → Course g start x → is_over x ≡ false
         → due_by x + g ≤ start + longest g (packets_of x.sender.message) }
@@ -122,4 +123,15 @@ pub fn done_means()
     ensures sent { (now reason : ℕ) (x : Transfer) → is_due now x ≡ true → ending (sends_in now x) ≡ Some (how.Failed reason)
         → signal_by now x ≡ Some (Abort reason x.sender.message.pgn) }
     ensures undone { (now : ℕ) (x : Transfer) → is_due now x ≡ true → ending (sends_in now x) ≢ Some how.Done }
+{}
+
+/// Two begin at once, of which one is held by its destination: so `by_turns` and `ends_in_time` speak of something.
+#[tactic(auto, using(crate::proofs::ExampleLemmas::begins, crate::proofs::ExampleLemmas::first, crate::proofs::ExampleLemmas::other, crate::proofs::ExampleLemmas::passes, crate::proofs::ExampleLemmas::second, crate::proofs::ExampleLemmas::prompt))]
+pub fn an_example()
+    ensures begins { answer (order 1 11) (awake 0 (after 128 2 [])) ≡ Ok tt }
+    ensures first { option_map to (turn 1000 (after 128 2 beginning).running) ≡ Some 11 }
+    ensures other { is_some (of 12 (after 128 2 beginning).running) ≡ true }
+    ensures passes { PassesBy 128 2 12 later (Sends 1000 ∷ beginning) }
+    ensures second { option_map to (turn 2000 (after 128 2 (Sends 1000 ∷ beginning)).running) ≡ Some 12 }
+    ensures prompt { ArePrompt 128 2 10000 11 both (Begins (order 1 11) None 0 ∷ []) }
 {}
