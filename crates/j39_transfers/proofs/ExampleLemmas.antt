@@ -1,5 +1,5 @@
 -- The premises of laws are met.
-use Rattle.j39_transfers.proofs.Common.{[], ◌∷◌, ◌≡◌, ◌≢◌, answer, awake, find, has_some, is_due, is_over, None, of, Ok, Option, option_map, refl, Some, to, turn, true, ℕ}
+use Rattle.j39_transfers.proofs.Common.{[], ◌∷◌, ◌≡◌, ◌≢◌, answer, arith, awake, find, has_some, is_due, is_over, None, of, Ok, Option, option_map, refl, Some, to, turn, true, ℕ}
 use Rattle.j39_transport.specs.Sending.{cleared, hears, new_sender, send_step, ticks_in}
 use Rattle.j39_transport.specs.Signals.{control_in, said_between, said_by}
 use Rattle.j39_transfers.specs.Course.{ArePrompt}
