@@ -1,6 +1,5 @@
 -- Boxes in their lists, one taken out, or all changed.
-use Rattle.std.proofs.lemmas.Option.{slice_get-map}
-use Rattle.j39_transfers.proofs.Common.{[], if◌then◌else◌, ◌&&◌, ◌+◌, ◌++◌, ◌<◌, ◌∙◌, ◌∷◌, ◌≡◌, ◌≤◌, ap, ap₂, arith, Bool, drop, false, filter, find, get_or, goes, has_some, is_due, length, List, list_any, map, nat_lt, None, not, Option, others, position, position_or_len, refl, remove, set, Some, sooner, subst, suc, sym, take, Transfer, true, zero, ℕ}
+use Rattle.j39_transfers.proofs.Common.{[], if◌then◌else◌, ◌+◌, ◌++◌, ◌<◌, ◌∙◌, ◌∷◌, ◌≡◌, ◌≤◌, ap, ap₂, arith, Bool, drop, false, filter, find, get_or, goes, has_some, length, List, list_any, map, nat_lt, None, not, Option, others, position, position_or_len, refl, remove, set, Some, sooner, subst, suc, sym, take, Transfer, true, zero, ℕ}
 
 module _ {X Y : Type 0} (view : X → Y) (g : Y → Y) where
   -- one more of a list is changed in place

@@ -3,17 +3,17 @@ use Rattle.j39_transfers.specs.Events.{after, AreApart, Begins, Event, Hears, Le
 use Rattle.j39_transfers.specs.declared.kinds.Refused.{Refused}
 use Rattle.j39_transfers.proofs.LawLemmas.{answered, begun_split, each_apart, gone_others, Keeps, not_open, of_append, of_map, others_none, same_others, to_begun}
 use Rattle.j39_transfers.proofs.TurnLemmas.{first_due}
-use Rattle.j39_transfers.proofs.Common.{Bool, FrameRecord, IfSome, List, None, Ok, Option, Order, Result, Some, Transfer, TransfersRecord, [], and_parts, answer, ap, append-nil, arith, awake, begun, breaks, cases_lt, cond_both, eq-eqb, eqb-true, false, find, gives_up, has_some, hears_in, if◌then◌else◌, inl, inr, is_due, is_first, is_left, is_over, is_spent, leaves_in, length, listed, listens, lt-ltb, map, min, nat_eq, nat_lt, not, of, option_map, others, refl, sends_in, subst, suc, sym, tells, to, true, turn, zero, ℕ, ◌&&◌, ◌*◌, ◌++◌, ◌+◌, ◌-◌, ◌<◌, ◌==◌, ◌||◌, ◌∙◌, ◌∷◌, ◌≡◌, ◌≢◌, ◌≤◌, ◌⊎◌}
+use Rattle.j39_transfers.proofs.Common.{Bool, FrameRecord, IfSome, List, None, Ok, Option, Order, Result, Some, Transfer, TransfersRecord, [], and_parts, answer, ap, append-nil, arith, awake, begun, breaks, cases_lt, cond_both, eq-eqb, eqb-true, false, find, gives_up, has_some, hears_in, if◌then◌else◌, inl, inr, is_due, is_first, is_left, is_over, is_spent, leaves_in, length, listed, listens, lt-ltb, map, min, nat_eq, nat_lt, of, option_map, others, refl, sends_in, subst, suc, sym, tells, to, true, turn, ℕ, ◌&&◌, ◌*◌, ◌++◌, ◌+◌, ◌-◌, ◌<◌, ◌==◌, ◌||◌, ◌∙◌, ◌∷◌, ◌≡◌, ◌≢◌, ◌≤◌, ◌⊎◌}
 use Rattle.std.proofs.Math.Nat.{mul-le-mul_right, one-mul, suc-mul}
 use Rattle.std.specs.Prelude.{max}
-use Rattle.j39_transport.specs.Message.{packets_of, MessageRecord}
+use Rattle.j39_transport.specs.Message.{packets_of}
 use Rattle.j39_transport.specs.Protocol.{timer_t3, timer_t4, timeout}
 use Rattle.j39_transport.specs.SenderModel.{IsState}
-use Rattle.j39_transport.specs.SenderNext.{clears, granted_by}
-use Rattle.j39_transport.specs.Sending.{aborted, acknowledged, cleared, Done, Failed, Heard, hears, Idle, is_running, is_waiting, may_name, new_sender, send_step, SenderRecord, Sending, SendResult, sends_packet, SendState, silent, Tick, ticks_in, Waiting, waits}
+use Rattle.j39_transport.specs.SenderNext.{granted_by}
+use Rattle.j39_transport.specs.Sending.{aborted, acknowledged, cleared, Done, Failed, hears, Idle, is_running, is_waiting, may_name, new_sender, send_step, SenderRecord, Sending, SendResult, sends_packet, SendState, silent, Tick, ticks_in, Waiting, waits}
 use Rattle.j39_transport.specs.Signals.{Abort, Acknowledgment, BroadcastAnnounce, ClearToSend, Packet, RequestToSend, said_between, Signal}
 use Rattle.j39_transfers.specs.Course.{ArePrompt, begins, Course, due_by, due_from, hears as heard, IsInTime, IsPrompt, leaves, longest, loses, round, sends}
-use Rattle.j39_transfers.specs.Transfers.{begun_if, can_move, ending_by, granted_after, is_ended, sender_of, signal_by, spent_after}
+use Rattle.j39_transfers.specs.Transfers.{begun_if, can_move, ending_by, granted_after, is_ended, spent_after}
 use Rattle.j39_transfers.specs.declared.kinds.Ending.{Ending}
 use Rattle.j39_transfers.specs.declared.kinds.Ending.TheVariants as how
 use Rattle.j39_transfers.proofs.StepLemmas.{keeps_broken, keeps_heard, keeps_left, keeps_sent, not_ended}

@@ -1,5 +1,5 @@
 -- When a frame is due.
-use Rattle.j39_transfers.proofs.Common.{[], if◌then◌else◌, ◌&&◌, ◌+◌, ◌-◌, ◌<◌, ◌∙◌, ◌∷◌, ◌≡◌, ◌≤◌, ◌||◌, ap, arith, Bool, cases_Bool, due_in, eq-eqb, false, find, goes, has_some, inl, inr, is_due, is_first, List, list_any, min, nat_eq, None, not, of, Option, refl, said, Some, soonest, sooner, subst, sym, to_send, Transfer, TransfersRecord, true, turn, urgency, urgency_in, ◌⊎◌, ℕ}
+use Rattle.j39_transfers.proofs.Common.{[], ◌+◌, ◌<◌, ◌∙◌, ◌∷◌, ◌≡◌, ◌≤◌, ◌||◌, ap, arith, Bool, due_in, false, find, goes, has_some, inl, inr, is_due, List, list_any, min, None, of, Option, refl, said, Some, soonest, sooner, sym, Transfer, TransfersRecord, true, turn, urgency, urgency_in, ◌⊎◌, ℕ}
 use Rattle.j39_transport.specs.Sending.{send_step, sends_packet, ticks_in}
 use Rattle.j39_transfers.specs.Transfers.{frame_by, frame_of}
 use Rattle.j39_transfers.proofs.TurnLemmas.{first_due}

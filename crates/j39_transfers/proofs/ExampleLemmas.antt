@@ -1,7 +1,6 @@
 -- The premises of laws are met.
-use Rattle.j39_transfers.proofs.Common.{[], ◌∷◌, ◌≡◌, ◌≢◌, answer, arith, awake, find, has_some, is_due, is_over, None, of, Ok, Option, option_map, refl, Some, to, turn, true, ℕ}
-use Rattle.j39_transport.specs.Sending.{cleared, hears, new_sender, send_step, ticks_in}
-use Rattle.j39_transport.specs.Signals.{control_in, said_between, said_by}
+use Rattle.j39_transfers.proofs.Common.{[], ◌∷◌, ◌≡◌, answer, arith, awake, has_some, None, of, Ok, option_map, refl, Some, to, turn, true}
+use Rattle.j39_transport.specs.Sending.{new_sender, send_step, ticks_in}
 use Rattle.j39_transfers.specs.Course.{ArePrompt}
 use Rattle.j39_transfers.specs.Events.{after, Begins, PassesBy, Sends}
 use Rattle.j39_transfers.specs.Example.{beginning, both, later, order}
@@ -26,4 +25,4 @@ second = refl
 
 pub prompt : ArePrompt 128 2 10000 11 both (Begins (order 1 11) None 0 ∷ [])
 unfolding new_sender send_step ticks_in
-prompt = ((λ e. omega arith), (λ e. omega arith), tt, tt)
+prompt = ((λ e. omega arith), ((λ e. omega arith), (tt, tt)))

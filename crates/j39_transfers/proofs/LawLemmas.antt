@@ -1,8 +1,8 @@
 -- What all that transfers went through leaves.
-use Rattle.j39_transfers.proofs.Common.{[], if◌then◌else◌, ◌&&◌, ◌*◌, ◌+◌, ◌++◌, ◌<◌, ◌∙◌, ◌∷◌, ◌≡◌, ◌≢◌, ◌≤◌, ◌||◌, and_parts, answer, ap, append-nil, append_assoc, arith, awake, begins, begun, Bool, breaks, can_begin, cond_both, eq-eqb, eqb-true, Err, false, filter, find, FrameRecord, has_room, has_some, hears, hears_in, is_first, is_open, is_over, is_resting, leaves, leaves_in, length, length-append, length-map, List, listed, loses, ltb-true, map, nat_eq, nat_lt, ne_eqb, None, not, of, Ok, Option, option_map, Order, others, refl, Rest, rest_of, Result, sends, sends_in, Some, source_of, subst, sym, tells, to, Transfer, TransfersRecord, true, turn, ℕ}
+use Rattle.j39_transfers.proofs.Common.{[], if◌then◌else◌, ◌*◌, ◌+◌, ◌++◌, ◌∙◌, ◌∷◌, ◌≡◌, ◌≢◌, ◌≤◌, and_parts, answer, ap, append-nil, arith, awake, begins, begun, Bool, breaks, can_begin, cond_both, eq-eqb, eqb-true, Err, false, filter, find, FrameRecord, has_room, has_some, hears, hears_in, is_first, is_open, is_over, is_resting, leaves, leaves_in, length, length-append, length-map, List, listed, loses, ltb-true, map, nat_eq, nat_lt, ne_eqb, None, not, of, Ok, Option, option_map, Order, others, refl, Rest, rest_of, Result, sends, sends_in, Some, source_of, subst, sym, tells, to, Transfer, TransfersRecord, true, turn, ℕ}
 use Rattle.j39_transport.specs.Sending.{new_sender}
 use Rattle.j39_transfers.specs.Events.{after, AreApart, Begins, begun_by, begun_tokens, Event, Hears, Leaves, Loses, Moves, Sends, step, Tells, times, token_if, tokens, told_by, told_tokens}
-use Rattle.j39_transfers.specs.Transfers.{begun_if, can_move, end_by, ending, moves, rest_by}
+use Rattle.j39_transfers.specs.Transfers.{begun_if, can_move, end_by, ending, rest_by}
 use Rattle.j39_transfers.specs.declared.kinds.Refused.{Refused}
 use Rattle.j39_transfers.specs.declared.kinds.Refused.TheVariants.{BadValue, Busy, Full, Resting}
 use Rattle.j39_transfers.specs.declared.kinds.Ending.{Ending}

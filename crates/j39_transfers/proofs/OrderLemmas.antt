@@ -12,7 +12,7 @@ use Rattle.j39_transport.specs.Protocol.{timeout, timer_t3}
 use Rattle.j39_transport.specs.SenderNext.{granted_by}
 use Rattle.j39_transfers.specs.declared.kinds.Ending.{Ending}
 use Rattle.j39_transfers.specs.declared.kinds.Ending.TheVariants as how
-use Rattle.j39_transfers.proofs.Common.{Bool, FrameRecord, List, None, Option, Order, Some, Transfer, TransfersRecord, [], ap, append-nil, arith, begun, breaks, cond_both, ending, false, find, gives_up, has_some, hears_in, if◌then◌else◌, is_due, is_first, is_left, is_over, is_spent, leaves_in, length, listed, listens, map, nat_eq, nat_lt, of, option_map, others, refl, sends_in, subst, sym, to, true, turn, ℕ, ◌&&◌, ◌++◌, ◌+◌, ◌==◌, ◌||◌, ◌∙◌, ◌∷◌, ◌≡◌, ◌≢◌, ◌≤◌}
+use Rattle.j39_transfers.proofs.Common.{Bool, FrameRecord, List, None, Option, Order, Some, Transfer, TransfersRecord, [], append-nil, arith, begun, breaks, cond_both, ending, false, find, gives_up, hears_in, if◌then◌else◌, is_due, is_first, is_left, is_over, is_spent, leaves_in, length, listed, listens, map, nat_eq, nat_lt, of, option_map, others, refl, sends_in, subst, sym, to, true, turn, ℕ, ◌++◌, ◌+◌, ◌==◌, ◌||◌, ◌∷◌, ◌≡◌, ◌≢◌, ◌≤◌}
 
 -- ---- what goes
 

@@ -1,5 +1,5 @@
 -- What rests, and since when.
-use Rattle.j39_transfers.proofs.Common.{[], if◌then◌else◌, ◌&&◌, ◌+◌, ◌++◌, ◌<◌, ◌∙◌, ◌∷◌, ◌≡◌, ◌≤◌, ◌⊎◌, ◌||◌, and_parts, ap, arith, awake, begun, Bool, cond_both, eqb-true, eq-eqb, false, filter, find, has_some, inl, inr, is_over, is_resting, List, list_any, listed, lt-ltb, ltb-true, nat_eq, nat_lt, None, Option, Order, refl, Rest, rest_of, Some, subst, sym, to, Transfer, TransfersRecord, true, ℕ}
+use Rattle.j39_transfers.proofs.Common.{[], if◌then◌else◌, ◌&&◌, ◌+◌, ◌++◌, ◌<◌, ◌∙◌, ◌∷◌, ◌≡◌, ◌≤◌, ◌||◌, ap, arith, awake, Bool, cond_both, eq-eqb, false, filter, find, is_over, is_resting, List, list_any, listed, lt-ltb, nat_eq, nat_lt, None, Option, refl, Rest, rest_of, Some, sym, to, Transfer, TransfersRecord, true, ℕ}
 use Rattle.j39_transfers.specs.Events.{after, AreBy, Begins, Event, Hears, IsBy, Leaves, Loses, Moves, Sends, step, Tells, WasTold}
 use Rattle.j39_transfers.specs.Events as events
 use Rattle.j39_transfers.specs.Transfers.{can_move, is_of, rest_by, rest_time, rests}

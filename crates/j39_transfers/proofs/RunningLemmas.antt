@@ -1,5 +1,5 @@
 -- What one transfer does.
-use Rattle.j39_transfers.proofs.Common.{◌≡◌, arith, due_in, has_some, is_due, nat_eq, Transfer, ℕ, Option, Bool, None, Some, false}
+use Rattle.j39_transfers.proofs.Common.{◌≡◌, arith, due_in, is_due, nat_eq, Transfer, ℕ, Option, Bool, None, Some, false}
 use Rattle.j39_transport.specs.Sending.{ticks_in, send_step, sends_packet}
 
 abbrev pub is_zero : Option ℕ → Bool

@@ -1,7 +1,7 @@
 -- What a step leaves of one transfer.
-use Rattle.j39_transfers.proofs.Common.{if◌then◌else◌, ◌&&◌, ◌==◌, ◌∙◌, ◌≡◌, ◌≢◌, ◌||◌, ap, arith, Bool, breaks, cond_both, eqb-true, false, FrameRecord, gives_up, has_some, hears_in, is_left, is_over, is_spent, leaves_in, listens, nat_eq, ne_eqb, None, Option, refl, sends_in, Some, source_of, sym, to, Transfer, true, ℕ}
+use Rattle.j39_transfers.proofs.Common.{if◌then◌else◌, ◌∙◌, ◌≡◌, ◌≢◌, ◌||◌, ap, arith, Bool, breaks, cond_both, false, FrameRecord, gives_up, has_some, hears_in, is_left, is_over, is_spent, leaves_in, listens, ne_eqb, None, Option, refl, sends_in, Some, source_of, to, Transfer, true, ℕ}
 use Rattle.j39_transport.specs.Frames as frames
-use Rattle.j39_transport.specs.Sending.{aborted, acknowledged, cleared, Done, Failed, Heard, hears, Idle, send_step, SenderRecord, Sending, sends_packet, SendState, Tick, ticks_in, Waiting}
+use Rattle.j39_transport.specs.Sending.{aborted, acknowledged, cleared, Heard, hears, send_step, SenderRecord, sends_packet, SendState, Tick, ticks_in}
 use Rattle.j39_transport.specs.Signals.{said_between, Signal}
 use Rattle.j39_transport.specs.SenderNext.{granted_by}
 use Rattle.j39_transfers.specs.Transfers.{ending_by, granted_after, heard_in, is_ended, spent_after}

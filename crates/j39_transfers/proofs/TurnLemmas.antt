@@ -1,10 +1,10 @@
 -- Whose turn it is.
-use Rattle.j39_transfers.proofs.Common.{[], if◌then◌else◌, ◌&&◌, ◌+◌, ◌++◌, ◌<◌, ◌∙◌, ◌∷◌, ◌≡◌, ◌≢◌, ◌≤◌, ap, append-nil, arith, awake, begun, Bool, breaks, cond_both, eq-eqb, eqb-true, false, find, goes, has_some, hears_in, is_due, is_first, is_open, is_over, leaves_in, List, list_any, listed, map, nat_eq, ne_eqb, None, of, Option, option_map, Order, others, refl, sends, sends_in, Some, sooner, subst, sym, to, Transfer, TransfersRecord, true, turn, urgency, urgency_in, ℕ}
+use Rattle.j39_transfers.proofs.Common.{[], if◌then◌else◌, ◌&&◌, ◌++◌, ◌∙◌, ◌∷◌, ◌≡◌, ◌≢◌, ◌≤◌, ap, append-nil, arith, begun, Bool, breaks, cond_both, eq-eqb, eqb-true, false, find, goes, has_some, hears_in, is_due, is_first, is_over, leaves_in, List, listed, map, nat_eq, None, of, Option, option_map, others, refl, sends, sends_in, Some, sooner, subst, sym, to, Transfer, TransfersRecord, true, turn, urgency, urgency_in, ℕ}
 use Rattle.j39_transfers.specs.Events.{after, AreApart, Begins, Event, Hears, is_before, Leaves, Loses, Moves, Passes, PassesBy, Sends, step, Tells}
 use Rattle.j39_transfers.specs.Transfers.{can_move}
 use Rattle.j39_transfers.specs.declared.kinds.Ending.TheVariants as how
-use Rattle.j39_transfers.proofs.LawLemmas.{begun_split, each_apart, gone_others, Keeps, of_append, of_before, of_map, others_none, same_others, found_passes}
-use Rattle.j39_transfers.proofs.StepLemmas.{keeps_broken, keeps_heard, keeps_left, keeps_sent}
+use Rattle.j39_transfers.proofs.LawLemmas.{begun_split, each_apart, gone_others, Keeps, of_map, others_none, same_others, found_passes}
+use Rattle.j39_transfers.proofs.StepLemmas.{keeps_broken, keeps_heard, keeps_left}
 
 -- ---- who stands before whom
 

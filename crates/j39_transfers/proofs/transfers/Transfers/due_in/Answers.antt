@@ -1,4 +1,4 @@
-use Rattle.j39_transfers.proofs.Common.{◌+◌, ◌<◌, ◌∙◌, ◌≡◌, ap, arith, drop, get_or, in_box, length, map, Option, due_in, soonest, refl, sooner, stamp_micros, subst, suc, sym, Transfer, transfer_in, ℕ}
+use Rattle.j39_transfers.proofs.Common.{◌+◌, ◌<◌, ◌∙◌, ◌≡◌, ap, arith, drop, get_or, in_box, length, map, Option, due_in, soonest, refl, sooner, stamp_micros, subst, suc, sym, transfer_in, ℕ}
 use Rattle.j39_transfers.specs.declared.running.Running.{Running}
 use Rattle.j39_transfers.proofs.BoxLemmas.{soonest_next, sooner_of}
 use Rattle.j39_transfers.proofs.transfers.Transfers.due_in.Goals as goal

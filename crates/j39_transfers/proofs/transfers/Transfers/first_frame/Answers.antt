@@ -1,4 +1,4 @@
-use Rattle.j39_transfers.proofs.Common.{◌∙◌, ap, frame_of, in_box, is_first, map, None, Option, option_map, stamp_micros, sym, to_send, Transfer, transfer_in}
+use Rattle.j39_transfers.proofs.Common.{◌∙◌, ap, frame_of, in_box, is_first, map, option_map, stamp_micros, sym, to_send, transfer_in}
 use Rattle.j39_transfers.specs.Transfers.{frame_by}
 use Rattle.j39_transfers.specs.declared.running.Running.{Running}
 use Rattle.j39_transfers.proofs.BoxLemmas.{none_placed, placed}

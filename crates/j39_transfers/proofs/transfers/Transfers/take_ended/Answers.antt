@@ -1,4 +1,4 @@
-use Rattle.j39_transfers.proofs.Common.{[], ◌++◌, ◌∙◌, ◌∷◌, append-nil, ap, in_box, is_over, List, listed, map, Option, others, rest_of, Rest, sym, Transfer, transfer_in, TransfersRecord, transfers_of}
+use Rattle.j39_transfers.proofs.Common.{◌++◌, ◌∙◌, append-nil, ap, in_box, is_over, listed, map, Option, rest_of, sym, Transfer, transfer_in, TransfersRecord, transfers_of}
 use Rattle.j39_transfers.specs.Transfers.{end_by, end_of, rest_by}
 use Rattle.j39_transfers.specs.declared.running.Running.{Running}
 use Rattle.j39_transfers.proofs.BoxLemmas.{none_placed, placed}

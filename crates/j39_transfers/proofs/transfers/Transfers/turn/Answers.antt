@@ -1,4 +1,4 @@
-use Rattle.j39_transfers.proofs.Common.{◌&&◌, ◌∙◌, ap, goes, in_box, is_due, Option, position, stamp_micros, sym, ℕ}
+use Rattle.j39_transfers.proofs.Common.{◌∙◌, ap, goes, in_box, Option, position, stamp_micros, sym, ℕ}
 use Rattle.j39_transfers.proofs.BoxLemmas.{none_goes}
 use Rattle.j39_transfers.proofs.transfers.Transfers.turn.Goals as goal
 
