@@ -113,12 +113,12 @@ impl Transfers {
 
     /// That frame was sent.
     pub fn drop_frame(&mut self, now: Stamp)
-        ensures { transfers_of self.new ≡ sends (stamp_micros now) (transfers_of self.old) }
+        ensures sent { transfers_of self.new ≡ sends (stamp_micros now) (transfers_of self.old) }
     {
         if let Some(place) = self.turn(now) {
-            let mut running = self.current.remove(place);
-            running.sent(now);
-            put(&mut self.current, running);
+            let mut first = self.current.remove(place);
+            first.sent(now);
+            put(&mut self.current, first);
         }
     }
 
@@ -235,7 +235,7 @@ impl Transfers {
 
     /// The place of what rests of this pair.
     fn rest_of(&self, to: u8, group: Pgn) -> Option<usize>
-        ensures { result ≡ position (λ x. is_of to (pgn_raw group) (rest_by x)) self.now.resting.items }
+        ensures place { result ≡ position (λ x. is_of to (pgn_raw group) (rest_by x)) self.now.resting.items }
     {
         self.resting
             .iter()
