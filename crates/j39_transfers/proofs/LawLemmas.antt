@@ -7,7 +7,8 @@ use Rattle.j39_transfers.specs.declared.kinds.Refused.{Refused}
 use Rattle.j39_transfers.specs.declared.kinds.Refused.TheVariants.{BadValue, Busy, Full, Resting}
 use Rattle.j39_transfers.specs.declared.kinds.Ending.{Ending}
 use Rattle.j39_transfers.specs.declared.kinds.Ending.TheVariants as how
-use Rattle.j39_transfers.proofs.StepLemmas.{keeps_broken, keeps_heard, keeps_left, keeps_sent, same_heard}
+use Rattle.j39_transfers.proofs.StepLemmas.{keeps_broken, keeps_heard, keeps_left, keeps_sent, same_elsewhere, same_heard}
+use Rattle.j39_transport.specs.Frames as frames
 
 -- ---- all are changed
 
@@ -202,6 +203,10 @@ of_another s now a f n = of_map (hears_in f now) (keeps_heard f now) a s.running
     same : (o : Option Transfer) → of a s.running ≡ o → option_map (hears_in f now) o ≡ o
     same None e = refl
     same (Some x) e = ap Some (same_heard f now x (λ z. n (z ∙ sym (eqb-true a (to x) (found_passes (λ y. nat_eq a (to y)) s.running x e)))))
+
+pub to_another : (s : TransfersRecord) (now a : ℕ) (f : FrameRecord) (x : Transfer) → of a s.running ≡ Some x → frames.destination_of f.id ≢ x.sender.message.source
+    → of a (hears f now s).running ≡ Some x
+to_another s now a f x e n = of_map (hears_in f now) (keeps_heard f now) a s.running ∙ (ap (option_map (hears_in f now)) e ∙ ap Some (same_elsewhere f now x n))
 
 pub sent_another : (s : TransfersRecord) (now a : ℕ) (y : Transfer) → turn now s.running ≡ Some y → to y ≢ a → of a (sends now s).running ≡ of a s.running
 sent_another s now a y e n = another_standing (sends_in now) (keeps_sent now) (is_first now s.running) s.running a y e n

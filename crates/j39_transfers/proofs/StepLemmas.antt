@@ -52,6 +52,10 @@ pub unsaid : (s d : ℕ) (f : FrameRecord) → source_of f.id ≢ s → said_bet
 unfolding said_between frames.source_of
 unsaid s d f n = let e = ne_eqb (source_of f.id) s n in grind (arith, e)
 
+pub unsaid_to : (s d : ℕ) (f : FrameRecord) → frames.destination_of f.id ≢ d → said_between s d f ≡ None
+unfolding said_between
+unsaid_to s d f n = let e = ne_eqb (frames.destination_of f.id) d n in grind (arith, e)
+
 pub not_ended : (st : SendState) (b : Option Ending) → has_some (ending_by st b) ≡ false → is_ended st ≡ false
 not_ended st b e = grind (arith, e)
 
@@ -69,10 +73,15 @@ nothing_heard f now x e o =
       last = if n i then now else x.last;
     } in y)
 
-pub same_heard : (f : FrameRecord) (now : ℕ) (x : Transfer) → source_of f.id ≢ to x → hears_in f now x ≡ x
-same_heard f now x n = go (is_over x) refl
+same_unsaid : (f : FrameRecord) (now : ℕ) (x : Transfer) → said_between x.sender.destination x.sender.message.source f ≡ None → hears_in f now x ≡ x
+same_unsaid f now x u = go (is_over x) refl
   where
     go : (b : Bool) → is_over x ≡ b → (if b || is_spent x then x else listens f now x) ≡ x
     go true e = refl
-    go false e = cond_both (is_spent x) x (listens f now x) (λ (y : Transfer). y ≡ x) (λ i. refl)
-        (λ i. nothing_heard f now x (unsaid (to x) x.sender.message.source f n) e)
+    go false e = cond_both (is_spent x) x (listens f now x) (λ (y : Transfer). y ≡ x) (λ i. refl) (λ i. nothing_heard f now x u e)
+
+pub same_heard : (f : FrameRecord) (now : ℕ) (x : Transfer) → source_of f.id ≢ to x → hears_in f now x ≡ x
+same_heard f now x n = same_unsaid f now x (unsaid (to x) x.sender.message.source f n)
+
+pub same_elsewhere : (f : FrameRecord) (now : ℕ) (x : Transfer) → frames.destination_of f.id ≢ x.sender.message.source → hears_in f now x ≡ x
+same_elsewhere f now x n = same_unsaid f now x (unsaid_to (to x) x.sender.message.source f n)

@@ -5,6 +5,7 @@ ghost use Rattle.std.specs.Option.{is_some, option_map};
 ghost use Rattle.j39_frame.specs.Frame.{FrameRecord};
 ghost use Rattle.j39_frame.specs.Identifier.{source_of};
 ghost use Rattle.j39_transport.specs.Cutting.{packet_data};
+ghost use Rattle.j39_transport.specs.Frames.{destination_of};
 ghost use Rattle.j39_transport.specs.Message.{packets_of};
 ghost use Rattle.j39_transport.specs.Sending.{Idle, Sending, request_of};
 ghost use Rattle.j39_transport.specs.Signals.{Abort, Acknowledgment, Packet, said_between};
@@ -29,10 +30,13 @@ pub fn accounted()
         ≡ times k (told_tokens own boxes E) + times k (tokens (after own boxes E).running) }
 {}
 
-/// A frame of another leaves a transfer, whatever it says; and what is sent, told or begun to one address leaves those to others.
-#[tactic(auto, using(crate::proofs::LawLemmas::of_another, crate::proofs::LawLemmas::sent_another, crate::proofs::LawLemmas::told_another, crate::proofs::LawLemmas::begun_another))]
+/// A frame of another, or to another, leaves a transfer, whatever it says; and what is sent, told or begun to one address leaves those to
+/// others.
+#[tactic(auto, using(crate::proofs::LawLemmas::of_another, crate::proofs::LawLemmas::to_another, crate::proofs::LawLemmas::sent_another, crate::proofs::LawLemmas::told_another, crate::proofs::LawLemmas::begun_another))]
 pub fn strangers()
     ensures heard { (s : TransfersRecord) (now a : ℕ) (f : FrameRecord) → source_of f.id ≢ a → of a (hears f now s).running ≡ of a s.running }
+    ensures elsewhere { (s : TransfersRecord) (now a : ℕ) (f : FrameRecord) (x : Transfer) → of a s.running ≡ Some x
+        → destination_of f.id ≢ x.sender.message.source → of a (hears f now s).running ≡ Some x }
     ensures sent { (s : TransfersRecord) (now a : ℕ) (y : Transfer) → turn now s.running ≡ Some y → to y ≢ a
         → of a (sends now s).running ≡ of a s.running }
     ensures told { (s : TransfersRecord) (a : ℕ) (y : Transfer) → find is_over s.running ≡ Some y → to y ≢ a

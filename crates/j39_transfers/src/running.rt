@@ -255,7 +255,7 @@ impl Running {
     /// The pair of group and destination that rests by its end; none where it was acknowledged, nothing of it was sent, or its request to
     /// send was refused: then its destination has no session of it.
     pub(crate) fn rest(&self) -> Option<Rest>
-        ensures { option_map rest_by result ≡ rest_of (transfer_in self.now) }
+        ensures rests { option_map rest_by result ≡ rest_of (transfer_in self.now) }
     {
         match self.sender.state() {
             SendState::Idle => return None,

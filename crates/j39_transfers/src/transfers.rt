@@ -111,7 +111,7 @@ impl Transfers {
         self.current[place].frame(now)
     }
 
-    /// That frame was sent.
+    /// The frame that goes first at this time was sent.
     pub fn drop_frame(&mut self, now: Stamp)
         ensures sent { transfers_of self.new ≡ sends (stamp_micros now) (transfers_of self.old) }
     {

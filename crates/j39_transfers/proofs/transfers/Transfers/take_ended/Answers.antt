@@ -27,7 +27,7 @@ pub returns-clause-ends : goal.returns-clause-ends
 returns-clause-ends c =
     let items = c.args.self.now.current.items in
     let p = placed in_box is_over c.remove-running.result items c.in_ok-place.place c.in_ok-place.ensures in
-    let r = c.rest.ensures ∙ (ap (λ (r : Running). rest_of (transfer_in r)) c.deref-2.ensures ∙ (ap (λ b. rest_of (in_box b)) c.remove-running.ensures.value ∙ sym (ap rest_by p.1.0))) in
+    let r = c.rest.ensures.rests ∙ (ap (λ (r : Running). rest_of (transfer_in r)) c.deref-2.ensures ∙ (ap (λ b. rest_of (in_box b)) c.remove-running.ensures.value ∙ sym (ap rest_by p.1.0))) in
     λ i. (let s : TransfersRecord = record (transfers_of c.args.self.now) {
       running = (ap (map in_box) c.remove-running.ensures.items ∙ p.1.1) i;
       rests = (c.rest-2.ensures.items ∙ ap (λ o. (transfers_of c.args.self.now).rests ++ listed o) r) i;
