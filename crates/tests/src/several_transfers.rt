@@ -1,7 +1,7 @@
 //! Several messages sent in packets at once, each to another address, from two boxes.
-use crate::steps::frame;
+use crate::steps::{frame, is_line};
 use j39_address::Claims;
-use j39_frame::{Id, Pgn, Stamp};
+use j39_frame::{Frame, Pgn, Stamp};
 use j39_transfers::{Ending, Outgoing, Refused, Transfers};
 use std::test::Fail;
 
@@ -28,11 +28,11 @@ use Step::{Begins, Ends, Hears, IsDueIn, Leaves, Loses, Sends};
 const BYTES: &[u8] = b"ABCDEFGHIJKLMNO";
 
 /// To address 11, which holds for ever, 12 and 13: the requests to send.
-const TO_11: Option<&str> = Some("(0.000000) can0 1CEC0B80#100F0003FFCAFE00");
+const TO_11: Option<&str> = Some("(0000000000.000000) can0 1CEC0B80#100F0003FFCAFE00");
 
-const TO_12: Option<&str> = Some("(0.000000) can0 1CEC0C80#100F0003FFCAFE00");
+const TO_12: Option<&str> = Some("(0000000000.000000) can0 1CEC0C80#100F0003FFCAFE00");
 
-const TO_13: Option<&str> = Some("(0.000000) can0 1CEC0D80#100F0003FFCAFE00");
+const TO_13: Option<&str> = Some("(0000000000.000000) can0 1CEC0D80#100F0003FFCAFE00");
 
 /// While 11 holds, 12 and 13 get theirs one after another, and 12 the next.
 static HELD: &[Step] = &[
@@ -48,9 +48,18 @@ static HELD: &[Step] = &[
     // What another says of the group changes nothing.
     Hears("(0.003000) can0 1CEC800E#FF01FFFFFFCAFE00"),
     Hears("(0.004000) can0 1CEC800C#110301FFFFCAFE00"),
-    Sends(5_000, Some("(0.000000) can0 1CEB0C80#0141424344454647")),
-    Sends(5_100, Some("(0.000000) can0 1CEB0C80#0248494A4B4C4D4E")),
-    Sends(5_200, Some("(0.000000) can0 1CEB0C80#034FFFFFFFFFFFFF")),
+    Sends(
+        5_000,
+        Some("(0000000000.000000) can0 1CEB0C80#0141424344454647"),
+    ),
+    Sends(
+        5_100,
+        Some("(0000000000.000000) can0 1CEB0C80#0248494A4B4C4D4E"),
+    ),
+    Sends(
+        5_200,
+        Some("(0000000000.000000) can0 1CEB0C80#034FFFFFFFFFFFFF"),
+    ),
     Ends(None),
     Hears("(0.006000) can0 1CEC800C#130F0003FFCAFE00"),
     Ends(Some((2, Ending::Done))),
@@ -65,7 +74,10 @@ static HELD: &[Step] = &[
     Sends(1_002_000, TO_12),
     IsDueIn(1_002_000, Some(1_048_001)),
     // Who is silent has 1,250 ms, and who holds 1,050 ms.
-    Sends(2_050_001, Some("(0.000000) can0 1CEC0B80#FF03FFFFFFCAFE00")),
+    Sends(
+        2_050_001,
+        Some("(0000000000.000000) can0 1CEC0B80#FF03FFFFFFCAFE00"),
+    ),
     Ends(Some((1, Ending::Failed(3)))),
     Begins(2_060_000, 6, 11, 7, Err(Refused::Resting)),
     Begins(2_060_000, 6, 13, 7, Ok(())),
@@ -88,10 +100,19 @@ static TURNS: &[Step] = &[
     Sends(0, TO_12),
     Sends(0, TO_11),
     Hears("(0.001000) can0 1CEC800B#110301FFFFCAFE00"),
-    Sends(1_000, Some("(0.000000) can0 1CEB0B80#0141424344454647")),
+    Sends(
+        1_000,
+        Some("(0000000000.000000) can0 1CEB0B80#0141424344454647"),
+    ),
     Hears("(0.002000) can0 1CEC800C#110101FFFFCAFE00"),
-    Sends(2_000, Some("(0.000000) can0 1CEB0C80#0141424344454647")),
-    Sends(2_000, Some("(0.000000) can0 1CEB0B80#0248494A4B4C4D4E")),
+    Sends(
+        2_000,
+        Some("(0000000000.000000) can0 1CEB0C80#0141424344454647"),
+    ),
+    Sends(
+        2_000,
+        Some("(0000000000.000000) can0 1CEB0B80#0248494A4B4C4D4E"),
+    ),
     // An abort in the middle rests, and not what was never sent.
     Hears("(0.003000) can0 1CEC800C#FF01FFFFFFCAFE00"),
     Ends(Some((2, Ending::Failed(1)))),
@@ -112,10 +133,22 @@ static BY_TURNS: &[Step] = &[
     Sends(0, TO_12),
     Hears("(0.001000) can0 1CEC800B#110301FFFFCAFE00"),
     Hears("(0.001000) can0 1CEC800C#110301FFFFCAFE00"),
-    Sends(1_000, Some("(0.000000) can0 1CEB0B80#0141424344454647")),
-    Sends(1_000, Some("(0.000000) can0 1CEB0C80#0141424344454647")),
-    Sends(1_000, Some("(0.000000) can0 1CEB0B80#0248494A4B4C4D4E")),
-    Sends(1_000, Some("(0.000000) can0 1CEB0C80#0248494A4B4C4D4E")),
+    Sends(
+        1_000,
+        Some("(0000000000.000000) can0 1CEB0B80#0141424344454647"),
+    ),
+    Sends(
+        1_000,
+        Some("(0000000000.000000) can0 1CEB0C80#0141424344454647"),
+    ),
+    Sends(
+        1_000,
+        Some("(0000000000.000000) can0 1CEB0B80#0248494A4B4C4D4E"),
+    ),
+    Sends(
+        1_000,
+        Some("(0000000000.000000) can0 1CEB0C80#0248494A4B4C4D4E"),
+    ),
 ];
 
 /// None begins without a box.
@@ -125,16 +158,11 @@ static NO_BOX: &[Step] = &[
     Ends(None),
 ];
 
-/// Whether this is the frame of the line.
-fn is_line(sent: Option<(Id, [u8; 8])>, line: Option<&str>) -> Option<bool> {
-    match (sent, line) {
-        (Some((id, bytes)), Some(line)) => {
-            let expected = frame(line)?;
-            Some(id.raw() == expected.id.raw() && bytes.as_slice() == expected.bytes.as_slice())
-        }
-        (None, None) => Some(true),
-        (_, _) => Some(false),
-    }
+/// The frame that goes first, as one of moment 0.
+fn first(transfers: &Transfers, now: Stamp) -> Option<Frame> {
+    let sent = transfers.first_frame(now)?;
+    let bytes = sent.1;
+    Frame::new(Stamp::new(0)?, sent.0, &bytes)
 }
 
 /// Whether they answer so.
@@ -158,7 +186,7 @@ fn is_step(transfers: &mut Transfers, claims: &mut Claims, step: &Step) -> Optio
         }
         Sends(now, line) => {
             let now = Stamp::new(*now)?;
-            let sent = transfers.first_frame(now);
+            let sent = first(transfers, now);
             transfers.drop_frame(now);
             is_line(sent, *line)
         }
