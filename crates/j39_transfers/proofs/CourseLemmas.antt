@@ -134,32 +134,16 @@ begins_course g start own o name =
 -- ---- it is over
 
 ended_over : (st : SendState) (b : Option Ending) → is_ended st ≡ true → has_some (ending_by st b) ≡ false → ⊥
-ended_over Idle b e i = absurd (cc)
-ended_over (Waiting limit) b e i = absurd (cc)
-ended_over (Sending p q) b e i = absurd (cc)
-ended_over Done b e i = absurd (cc)
-ended_over (Failed reason) b e i = absurd (cc)
+ended_over st b e i = grind (arith, e, i)
 
 ended_state : (n : ℕ) (st : SendState) → is_ended st ≡ true → IsState n st
-ended_state n Idle e = absurd (cc)
-ended_state n (Waiting limit) e = absurd (cc)
-ended_state n (Sending p q) e = absurd (cc)
-ended_state n Done e = tt
-ended_state n (Failed reason) e = tt
+ended_state n st e = grind (arith, e)
 
 ended_fresh : (st : SendState) (spent : ℕ) → is_ended st ≡ true → IsFresh st spent
-ended_fresh Idle spent e = absurd (cc)
-ended_fresh (Waiting limit) spent e = tt
-ended_fresh (Sending p q) spent e = tt
-ended_fresh Done spent e = tt
-ended_fresh (Failed reason) spent e = tt
+ended_fresh st spent e = grind (arith, e)
 
 broken_over : (st : SendState) (e : Ending) → has_some (ending_by st (Some e)) ≡ false → ⊥
-broken_over Idle e i = absurd (cc)
-broken_over (Waiting limit) e i = absurd (cc)
-broken_over (Sending p q) e i = absurd (cc)
-broken_over Done e i = absurd (cc)
-broken_over (Failed reason) e i = absurd (cc)
+broken_over st e i = grind (arith, i)
 
 waiting_is : (st : SendState) → is_waiting st ≡ true → (limit : ℕ) × (st ≡ Waiting limit)
 waiting_is Idle e = absurd (cc)
@@ -416,18 +400,10 @@ in_course g start x (leaves y gone holder now c) = leaves_course g start y gone 
 in_course g start x (loses y now c) = breaks_course g start y how.Withdrawn now (in_course g start y c)
 
 spent_last : (st : SendState) (since last : ℕ) → (if true && is_running st then last else due_from st since last) ≡ last
-spent_last Idle since last = refl
-spent_last (Waiting limit) since last = refl
-spent_last (Sending p q) since last = refl
-spent_last Done since last = refl
-spent_last (Failed reason) since last = refl
+spent_last st since last = grind arith
 
 due_ends : (g more : ℕ) (st : SendState) (since last : ℕ) → is_ended st ≡ false → due_from st since last + g ≤ ends_in g more st since last
-due_ends g more Idle since last e = omega arith
-due_ends g more (Waiting limit) since last e = omega arith
-due_ends g more (Sending p q) since last e = omega arith
-due_ends g more Done since last e = absurd (cc)
-due_ends g more (Failed reason) since last e = absurd (cc)
+due_ends g more st since last e = grind (arith, e)
 
 pub ends_soon : (g start : ℕ) (x : Transfer) → Course g start x → is_over x ≡ false → due_by x + g ≤ start + longest g (packets_of x.sender.message)
 ends_soon g start x c o = go (is_spent x) refl

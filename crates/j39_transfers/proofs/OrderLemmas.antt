@@ -104,11 +104,7 @@ abbrev InOrder : Transfer → Type 0
 InOrder x = IsNext x.sender.state x.sender.highest
 
 ended_next : (st : SendState) (highest : ℕ) → is_ended st ≡ true → IsNext st highest
-ended_next Idle highest e = tt
-ended_next (Waiting limit) highest e = tt
-ended_next (Sending k last) highest e = absurd (cc)
-ended_next Done highest e = tt
-ended_next (Failed reason) highest e = tt
+ended_next st highest e = grind (arith, e)
 
 next_hears : (s : SenderRecord) (now : ℕ) (o : Option Signal) → IsNext s.state s.highest → IsNext (hears o now s).state (hears o now s).highest
 next_hears s now o h = go (hears o now s) (granted_by s o) (hearing s now o)
