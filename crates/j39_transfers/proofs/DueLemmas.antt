@@ -51,9 +51,7 @@ quiet_all now later d (x ∷ xs) (inr h) l m =
     (λ i. quiet_one now later h.0 x s.0 l m2 i || any_due later xs) ∙ quiet_all now later h.0 xs s.1 l m2
 
 sooner_is : (a b : Option ℕ) (d : ℕ) → sooner a b ≡ Some d → (a ≡ Some d) ⊎ (b ≡ Some d)
-sooner_is None b d e = inr e
-sooner_is (Some m) None d e = inl e
-sooner_is (Some m) (Some n) d e = let h : min m n ≡ d = cc in grind (arith, h)
+sooner_is a b d e = grind (arith, e)
 
 loud : (now d : ℕ) (xs : List Transfer) → soonest now xs ≡ Some d → any_due (now + d) xs ≡ true
 loud now d [] e = absurd (cc)

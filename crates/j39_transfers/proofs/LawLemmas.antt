@@ -111,11 +111,7 @@ tokens_append (x ∷ xs) ys = let h = tokens_append xs ys in cc
 
 chosen : (a b c d : Bool) (x y z w : Refused) (u : Unit {0})
     → (let r : Result Unit Refused = if a then Err x else if b then Err y else if c then Err z else if d then Ok tt else Err w in r) ≡ Ok u → (b ≡ false) × (d ≡ true)
-chosen true b c d x y z w u e = absurd (cc)
-chosen false true c d x y z w u e = absurd (cc)
-chosen false false true d x y z w u e = absurd (cc)
-chosen false false false true x y z w u e = (refl, refl)
-chosen false false false false x y z w u e = absurd (cc)
+chosen a b c d x y z w u e = (grind (arith, e), grind (arith, e))
 
 pub answered : (o : Order) (s : TransfersRecord) (u : Unit {0}) → answer o s ≡ Ok u → (is_open o.to s.running ≡ false) × (has_room s ≡ true)
 answered o s u e = chosen (not (can_begin s.own o)) (is_open o.to s.running) (is_resting o.to o.group s.rests) (has_room s) BadValue Busy Resting Full u e

@@ -93,14 +93,10 @@ IsAtMost None n = ⊥
 IsAtMost (Some m) n = m ≤ n
 
 sooner_left : (a b : Option ℕ) (n : ℕ) → IsAtMost a n → IsAtMost (sooner a b) n
-sooner_left None b n h = absurd h
-sooner_left (Some m) None n h = h
-sooner_left (Some m) (Some k) n h = omega (arith, h)
+sooner_left a b n h = grind (arith, h)
 
 sooner_right : (a b : Option ℕ) (n : ℕ) → IsAtMost b n → IsAtMost (sooner a b) n
-sooner_right None b n h = h
-sooner_right (Some m) None n h = absurd h
-sooner_right (Some m) (Some k) n h = omega (arith, h)
+sooner_right a b n h = grind (arith, h)
 
 its_urgency : (now : ℕ) (x : Transfer) → is_due now x ≡ true → IsAtMost (urgency_in now x) x.priority
 its_urgency now x e = subst (λ (b : Bool). IsAtMost (if b then Some x.priority else None) x.priority) (sym e) (omega arith)
