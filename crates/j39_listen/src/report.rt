@@ -27,7 +27,7 @@ use crate::{Heard, Listener};
 use j39_frame::{Frame, Id};
 use j39_groups::Groups;
 use j39_io::{DeviceFault, Sink};
-use j39_log::Bus;
+use j39_log::{Bus, StampText};
 use std::alloc::{AllocError, Global};
 
 /// What is heard so far, and the numbers of its report in a form.
@@ -102,6 +102,11 @@ impl<'g, 't, E: EntryForm> Account for Report<'g, 't, E> {
         }
     }
 
+    #[inline(always)]
+    fn note_stamp(&mut self, text: StampText) {
+        self.form.note_stamp(text);
+    }
+
     fn close<W: Sink>(&self, _: &mut W) -> Result<Made, DeviceFault> {
         Ok(self.made)
     }
@@ -117,7 +122,7 @@ const NOTHING: Made = Made {
 
 /// Writes what the filter takes of what is heard at a frame of the run's bus. A message counts whether it is taken or not, and of
 /// the lines those that are written. The caller says whether messages of its group are heard in one frame.
-#[inline(never)]
+#[inline(always)]
 fn put_frame<E: EntryForm, W: Sink>(
     listener: &mut Listener,
     is_single: bool,

@@ -1,11 +1,13 @@
 //! The line of a frame.
 ghost use Rattle.std.specs.Prelude.{◌<◌, ◌^◌};
 
-use crate::fast::form::values_of;
 use crate::fast::lanes::pairs;
 use crate::fast::plain::decimals;
+use crate::stamp_text::StampText;
 use arrayvec::ArrayVec;
 use j39_frame::{Frame, Id, Stamp};
+use j39_io::backwards::bytes_before;
+use std::simd::prelude::*;
 
 /// The line of a frame of a bus, whose form is right. Its stamp and its data are made of it where they are asked for.
 #[derive(Clone, Copy)]
@@ -15,14 +17,14 @@ pub struct FrameLine<'a> {
     pub(crate) second: u64,
     /// The frame's identifier.
     pub id: Id,
-    /// The digits of its data.
-    pub(crate) data: &'a [u8; 16],
+    /// The values of the digits of its data.
+    pub(crate) values: [u8; 16],
     ghost fits: { second < 2 ^ 60 },
 }
 
 impl<'a> FrameLine<'a> {
     ghost use Rattle.std.specs.Prelude.{IfSome};
-    ghost use Rattle.j39_log.specs.FrameLine.{IsFrameOf};
+    ghost use Rattle.j39_log.specs.FrameLine.{BeginsStamp, IsFrameOf};
 
     /// The line's frame.
     #[inline(always)]
@@ -30,7 +32,18 @@ impl<'a> FrameLine<'a> {
         ensures { IfSome result (λ frame. IsFrameOf self.now frame) }
     {
         let stamp = Stamp::new(self.second + decimals(self.front))?;
-        let bytes = ArrayVec::from_array_in((), pairs(values_of(self.data), 16));
+        let bytes = ArrayVec::from_array_in((), pairs(u8x16::from_array(self.values), 16));
         Some(Frame::from_parts(stamp, self.id, bytes))
+    }
+
+    /// Its stamp with its text, which stands in the line.
+    #[inline(always)]
+    pub fn stamp_text(&self) -> StampText
+        requires { BeginsStamp self.now }
+    {
+        let mut text = [b')'; 19];
+        let _ = bytes_before(&mut text, 18, *self.front);
+        let micros = self.second + decimals(self.front);
+        StampText { micros, text }
     }
 }

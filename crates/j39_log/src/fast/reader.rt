@@ -130,7 +130,7 @@ fn formed<'a>(
         front,
         second,
         id,
-        data,
+        values: values.to_array(),
     };
     Some((line, rest))
 }
