@@ -1,5 +1,5 @@
 //! What each line of a message begins with before the number of its group, remembered for each sender.
-ghost use Rattle.std.specs.Prelude.{◌≡◌, ◌+◌, ◌≤◌, drop, length};
+ghost use Rattle.std.specs.Prelude.{◌≡◌, ◌+◌, ◌<◌, ◌≤◌, drop, length, slice_index_or};
 ghost use Rattle.std.specs.Option.{option_map};
 ghost use Rattle.j39_address.specs.Name.{name_raw};
 ghost use Rattle.j39_io.specs.Backwards.{WritesBefore};
@@ -30,7 +30,6 @@ struct Sender {
 
 impl Sender {
     /// The head of a sender.
-    #[inline(never)]
     fn new(address: u8, name: Option<Name>) -> Sender
         ensures address { result.address ≡ address }
         ensures name { result.name ≡ name }
@@ -57,6 +56,8 @@ pub(crate) struct Heads {
 }
 
 impl Heads {
+    ghost use Rattle.j39_listen.specs.declared.head.Sender.{Sender};
+
     /// With nothing heard.
     pub fn new() -> Heads {
         Heads {
@@ -71,42 +72,38 @@ impl Heads {
         self.stamp = text;
     }
 
-    /// What the lines of a message begin with, behind the first eight bytes: stamp, address and NAME, and a space after each.
+    /// Writes what the lines of a message begin with: stamp, address and NAME, and a space after each, behind the first eight bytes.
     #[inline(always)]
-    pub fn head_of(&mut self, heard: &Heard<'_>) -> [u8; HEAD]
-        ensures { drop 8 result ≡ hearing_sender (hearing_of heard.now) }
+    pub fn put_head(&mut self, head: &mut [u8; HEAD], heard: &Heard<'_>)
+        ensures { drop 8 head.new ≡ hearing_sender (hearing_of heard.now) }
     {
-        let sender = self.sender(heard.message.source, heard.name);
-        let mut head = sender.head;
-        let _ = self.stamp.stamp_before(&mut head, STAMP_END, heard.message.stamp);
-        head
+        let place = usize::from(heard.message.source);
+        self.find(place, heard.message.source, heard.name);
+        *head = self.senders[place].head;
+        let _ = self.stamp.stamp_before(head, STAMP_END, heard.message.stamp);
     }
 
-    /// A sender with its head.
+    /// Sees to it that the head of a sender is remembered.
     #[inline(always)]
-    fn sender(&mut self, address: u8, name: Option<Name>) -> Sender
-        ensures address { result.address ≡ address }
-        ensures name { result.name ≡ name }
-        ensures stamp { self.new.stamp ≡ self.old.stamp }
+    fn find(&mut self, place: usize, address: u8, name: Option<Name>)
+        requires { place < 256 }
+        ensures address { (d : Sender) → (slice_index_or self.new.senders place d).address ≡ address }
+        ensures name { (d : Sender) → (slice_index_or self.new.senders place d).name ≡ name }
     {
-        let known = self.senders[usize::from(address)];
-        if known.address == address && known.name == name {
-            known
-        } else {
-            self.learn(address, name)
+        let known = &self.senders[place];
+        if known.address != address || known.name != name {
+            self.learn(place, address, name);
         }
     }
 
     /// Makes the head of a sender, and remembers it.
     #[inline(never)]
-    fn learn(&mut self, address: u8, name: Option<Name>) -> Sender
-        ensures address { result.address ≡ address }
-        ensures name { result.name ≡ name }
-        ensures stamp { self.new.stamp ≡ self.old.stamp }
+    fn learn(&mut self, place: usize, address: u8, name: Option<Name>)
+        requires { place < 256 }
+        ensures address { (d : Sender) → (slice_index_or self.new.senders place d).address ≡ address }
+        ensures name { (d : Sender) → (slice_index_or self.new.senders place d).name ≡ name }
     {
-        let sender = Sender::new(address, name);
-        self.senders[usize::from(address)] = sender;
-        sender
+        self.senders[place] = Sender::new(address, name);
     }
 }
 

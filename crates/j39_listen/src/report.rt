@@ -122,7 +122,7 @@ const NOTHING: Made = Made {
 
 /// Writes what the filter takes of what is heard at a frame of the run's bus. A message counts whether it is taken or not, and of
 /// the lines those that are written. The caller says whether messages of its group are heard in one frame.
-#[inline(always)]
+#[inline(never)]
 fn put_frame<E: EntryForm, W: Sink>(
     listener: &mut Listener,
     is_single: bool,

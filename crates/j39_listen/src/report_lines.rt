@@ -4,7 +4,7 @@ ghost use Rattle.std.specs.Prelude.{◌≡◌};
 use crate::Heard;
 use crate::entry_form::EntryForm;
 use crate::head::{FROM, Heads};
-use j39_groups::{Groups, LINES};
+use j39_groups::{Groups, HEAD, LINES};
 use j39_io::{DeviceFault, Sink};
 use j39_log::StampText;
 
@@ -38,7 +38,8 @@ impl<'g, 't> EntryForm for Pen<'g, 't> {
 
     #[inline(always)]
     fn put_heard<W: Sink>(&mut self, heard: &Heard<'_>, sink: &mut W) -> Result<u64, DeviceFault> {
-        let head = self.heads.head_of(heard);
+        let mut head = [0; HEAD];
+        self.heads.put_head(&mut head, heard);
         match self.groups.put_lines(
             &mut self.block,
             &head,

@@ -25,13 +25,9 @@ hex_lane b = smaller (digit_lane b) (letter_lane b)
 abbrev pub pair_at : ℕ → List ℕ → ℕ → ℕ
 pair_at base v k = (get_or (v ++ v) (2 * k) 0 * base % 256 + get_or (v ++ v) (2 * k + 1) 0) % 256
 
--- the bytes of the values of sixteen hex digits
-abbrev pub bytes_by : List ℕ → List ℕ
-bytes_by values = map (pair_at 16 values) (range_with_len 0 8)
-
 -- the bytes that sixteen hex digits write
 abbrev pub bytes_of : List ℕ → List ℕ
-bytes_of digits = bytes_by (map hex_lane digits)
+bytes_of digits = map (pair_at 16 (map hex_lane digits)) (range_with_len 0 8)
 
 -- the third to the last byte of `(0123456789.012345`, each less the zero or the point that stands there
 abbrev pub stamp_lanes : List ℕ → List ℕ

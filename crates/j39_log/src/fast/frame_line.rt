@@ -1,13 +1,11 @@
 //! The line of a frame.
 ghost use Rattle.std.specs.Prelude.{◌<◌, ◌^◌};
 
-use crate::fast::lanes::pairs;
 use crate::fast::plain::decimals;
 use crate::stamp_text::StampText;
 use arrayvec::ArrayVec;
 use j39_frame::{Frame, Id, Stamp};
 use j39_io::backwards::bytes_before;
-use std::simd::prelude::*;
 
 /// The line of a frame of a bus, whose form is right. Its stamp and its data are made of it where they are asked for.
 #[derive(Clone, Copy)]
@@ -17,8 +15,8 @@ pub struct FrameLine<'a> {
     pub(crate) second: u64,
     /// The frame's identifier.
     pub id: Id,
-    /// The values of the digits of its data.
-    pub(crate) values: [u8; 16],
+    /// The bytes of its data.
+    pub(crate) bytes: [u8; 8],
     ghost fits: { second < 2 ^ 60 },
 }
 
@@ -32,7 +30,7 @@ impl<'a> FrameLine<'a> {
         ensures { IfSome result (λ frame. IsFrameOf self.now frame) }
     {
         let stamp = Stamp::new(self.second + decimals(self.front))?;
-        let bytes = ArrayVec::from_array_in((), pairs(u8x16::from_array(self.values), 16));
+        let bytes = ArrayVec::from_array_in((), self.bytes);
         Some(Frame::from_parts(stamp, self.id, bytes))
     }
 

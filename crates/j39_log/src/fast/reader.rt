@@ -7,6 +7,7 @@ ghost use Rattle.j39_log.specs.FrameLine.{BeginsLine, EndsAt, HasForm};
 
 use crate::fast::form::{have_form, values_of};
 use crate::fast::frame_line::FrameLine;
+use crate::fast::lanes::pairs;
 use crate::fast::plain::is_digit;
 use crate::{Bus, LastSecond};
 
@@ -130,7 +131,7 @@ fn formed<'a>(
         front,
         second,
         id,
-        values: values.to_array(),
+        bytes: pairs(values, 16),
     };
     Some((line, rest))
 }

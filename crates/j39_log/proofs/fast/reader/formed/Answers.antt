@@ -1,9 +1,10 @@
 -- The form of each part, and the identifier.
-use Rattle.std.proofs.Common.{◌++◌, ◌∷◌, ◌∙◌, Ok, ap, arith, drop, subst, take, sym}
+use Rattle.std.proofs.Common.{◌++◌, ◌∷◌, ◌∙◌, ℕ, List, Ok, ap, arith, drop, length, map, subst, take, sym}
 use Rattle.std.proofs.lemmas.Bool.{OnTrue_at}
 use Rattle.j39_log.specs.Bus.{IsBetween, IsBusName}
 use Rattle.j39_log.specs.Form.{Fits}
-use Rattle.j39_log.specs.Lanes.{bytes_by}
+use Rattle.std.specs.List.{range_with_len}
+use Rattle.j39_log.specs.Lanes.{pair_at}
 use Rattle.j39_log.specs.LastSecond.{HasSecond}
 use Rattle.j39_log.proofs.ReaderLemmas.{front_found, third_parts}
 use Rattle.j39_log.proofs.fast.reader.formed.Goals as goal
@@ -36,7 +37,9 @@ returns c =
         digits_fit = p.1;
         pairs_fit = p.2;
         written = c.in_ok-id.ensures.some;
-        bytes_are = c.values_of-values.ensures.digits values ∙ ap (λ v. Ok (bytes_by v)) (sym c.values_of-values.ensures.value);
+        bytes_are = c.values_of-values.ensures.digits values
+            ∙ ap (λ (bytes : List ℕ). Ok bytes) (sym (c.pairs.ensures ∙ ap (λ v. map (pair_at 16 v) (range_with_len 0 8)) c.values_of-values.ensures.value));
+        bytes_fit = ap length c.pairs.ensures;
         ends = c.in_ok-rest.ensures;
       };
     }

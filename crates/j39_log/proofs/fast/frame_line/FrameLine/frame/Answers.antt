@@ -14,5 +14,5 @@ returns c =
       stamp_is = λ begins cut digits short. subst (IsStampText (front ++ (cut ++ (41 ∷ [])))) (sym stamp)
           (stamp_read front cut _ _ begins.second (c.decimals.ensures.value _ begins.second begins.decimals) digits short);
       id_is = ap (λ (f : FrameRecord). f.id) is;
-      bytes_are = ap (λ (f : FrameRecord). f.bytes) is ∙ c.from_array_in-bytes.ensures.items ∙ c.pairs.ensures;
+      bytes_are = ap (λ (f : FrameRecord). f.bytes) is ∙ c.from_array_in-bytes.ensures.items;
     }
