@@ -10,6 +10,7 @@ use Rattle.j39_frame.specs.Identifier.{id_raw}
 use Rattle.j39_log.specs.Bus.{IsBetween, IsBusName, third_of}
 use Rattle.j39_log.specs.Form.{Fits, rests}
 use Rattle.j39_log.specs.FrameLine.{BeginsLine, BeginsStamp, HasForm, HasFront, HasThird}
+use Rattle.j39_log.specs.Lanes.{bytes_of}
 use Rattle.j39_log.specs.LastSecond.{AreDecimals, HasSecond, IsSecond}
 use Rattle.j39_log.specs.Text.{IsFrameText, IsStampText}
 use Rattle.j39_log.specs.declared.fast.form.Form.{Form}
@@ -146,21 +147,21 @@ line_found bytes cut third bus rest found long front_is behind second decimals d
       | inl none ↦ omega (arith, none)
       | inr three ↦ omega (arith, three)
     ] in
-    let last = t.digits ++ (35 ∷ t.pairs) in
-    let last_len : length last ≡ 25 = length-append t.digits (35 ∷ t.pairs) ∙ (let a = t.digits_fit in let b = t.pairs_fit in omega (arith, a, b)) in
-    let spelled : IsFrameText last (id_raw found.id) (found.bytes) = record {
+    let last = t.digits ++ (35 ∷ found.data.now) in
+    let last_len : length last ≡ 25 = length-append t.digits (35 ∷ found.data.now) ∙ (let a = t.digits_fit in let b = t.data_fit in omega (arith, a, b)) in
+    let spelled : IsFrameText last (id_raw found.id) (bytes_of found.data.now) = record {
       digits = t.digits;
-      pairs = t.pairs;
+      pairs = found.data.now;
       parts = record { text_is = refl; digits_fit = t.digits_fit };
       id_is = t.written.digits_are;
       id_fits = t.written.fits;
       bytes_are = t.bytes_are;
-      bytes_fit = let eight = t.bytes_fit in omega (arith, eight);
+      bytes_fit = omega arith;
     } in
     let whole : bytes ≡ front ++ (cut ++ (41 ∷ (32 ∷ (bus ++ (32 ∷ (last ++ t.end)))))) =
     sym (take-append-drop 18 bytes) ∙ ap (λ xs. front ++ xs) (behind ∙ ap (λ xs. cut ++ (41 ∷ (32 ∷ (bus ++ (32 ∷ xs)))))
-    (t.text_is ∙ sym (append_assoc t.digits (35 ∷ t.pairs) t.end))) in
-    let l = first_line bytes front cut bus last t.end rest (found.bytes) (found.second + more) (id_raw found.id) len last_len whole few t.ends stamp named spelled in
+    (t.text_is ∙ sym (append_assoc t.digits (35 ∷ found.data.now) t.end))) in
+    let l = first_line bytes front cut bus last t.end rest (bytes_of found.data.now) (found.second + more) (id_raw found.id) len last_len whole few t.ends stamp named spelled in
     let at_front : (P : List ℕ → Type 0) → P front → P found.front.now = λ P. subst P (sym front_is) in
     let begins : BeginsStamp found =
     record { second = at_front (λ f. IsSecond (take 12 f) found.second) within; decimals = at_front (λ f. AllDigits 10 (drop 12 f)) decimals } in
@@ -171,8 +172,8 @@ line_found bytes cut third bus rest found long front_is behind second decimals d
         stamped = begins;
         spells = λ frame its. l.2 frame
             (subst (λ f. IsStampText (f ++ (cut ++ (41 ∷ []))) frame.stamp) front_is (its.stamp_is begins cut digits short))
-            (subst (λ bs. IsFrameText last frame.id bs) (sym its.bytes_are) (subst (λ i. IsFrameText last i (found.bytes)) (sym its.id_is) spelled));
-        frame = record { stamp = found.second + more; id = id_raw found.id; bytes = found.bytes };
+            (subst (λ bs. IsFrameText last frame.id bs) (sym its.bytes_are) (subst (λ i. IsFrameText last i (bytes_of found.data.now)) (sym its.id_is) spelled));
+        frame = record { stamp = found.second + more; id = id_raw found.id; bytes = bytes_of found.data.now };
         is_its = record {
           stamp_is = λ b c d e. at_front (λ f. IsStampText (f ++ (c ++ (41 ∷ []))) (found.second + more)) (stamp_read front c found.second more within are d e);
           id_is = refl;

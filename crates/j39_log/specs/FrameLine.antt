@@ -7,6 +7,7 @@ use Rattle.j39_frame.specs.Identifier.{id_raw}
 use Rattle.j39_io.specs.Chars.{carriage_return, hash, newline, space}
 use Rattle.j39_log.specs.Bus.{IsBusName}
 use Rattle.j39_log.specs.Identifiers.{IsWritten}
+use Rattle.j39_log.specs.Lanes.{bytes_of}
 use Rattle.j39_log.specs.LastSecond.{IsSecond}
 use Rattle.j39_log.specs.Line.{IsFrameLine}
 use Rattle.j39_log.specs.Newline.{TakesLine}
@@ -25,7 +26,7 @@ pub record IsFrameOf (line : FrameLine) (frame : FrameRecord) : Type 0 where
   pub stamp_is : BeginsStamp line → (cut : List ℕ) → AllDigits 10 cut → (length cut ≡ 0) ⊎ (length cut ≡ 3)
       → IsStampText (line.front.now ++ (cut ++ codes ")")) frame.stamp
   pub id_is : frame.id ≡ id_raw line.id
-  pub bytes_are : frame.bytes ≡ line.bytes
+  pub bytes_are : frame.bytes ≡ bytes_of line.data.now
 
 -- a frame is the line's, and with this name before it each such frame is what the text spells
 pub record SpellsFrame (text bus : List ℕ) (found : FrameLine) : Type 0 where
@@ -74,14 +75,12 @@ pub record EndsAt (text rest : List ℕ) : Type 0 where
 -- the text is the digits of the identifier, `#`, the digits of the data, and the line's end with the rest
 pub record HasThird (text : List ℕ) (found : FrameLine) (rest : List ℕ) : Type 0 where
   pub digits : List ℕ
-  pub pairs : List ℕ
   pub end : List ℕ
-  pub text_is : text ≡ digits ++ (hash ∷ (pairs ++ end))
+  pub text_is : text ≡ digits ++ (hash ∷ (found.data.now ++ end))
   pub digits_fit : length digits ≡ 8
-  pub pairs_fit : length pairs ≡ 16
+  pub data_fit : length found.data.now ≡ 16
   pub written : IsWritten digits found.id
-  pub bytes_are : decode_of pairs ≡ Ok found.bytes
-  pub bytes_fit : length found.bytes ≡ 8
+  pub bytes_are : decode_of found.data.now ≡ Ok (bytes_of found.data.now)
   pub ends : EndsAt end rest
 
 pub record HasForm (bytes between : List ℕ) (third_at : ℕ) (bus : List ℕ) (found : FrameLine) (rest : List ℕ) : Type 0 where

@@ -1,6 +1,8 @@
 //! The line of a frame.
 ghost use Rattle.std.specs.Prelude.{◌<◌, ◌^◌};
 
+use crate::fast::form::values_of;
+use crate::fast::lanes::pairs;
 use crate::fast::plain::decimals;
 use crate::stamp_text::StampText;
 use arrayvec::ArrayVec;
@@ -15,8 +17,8 @@ pub struct FrameLine<'a> {
     pub(crate) second: u64,
     /// The frame's identifier.
     pub id: Id,
-    /// The bytes of its data.
-    pub(crate) bytes: [u8; 8],
+    /// The digits of its data.
+    pub(crate) data: &'a [u8; 16],
     ghost fits: { second < 2 ^ 60 },
 }
 
@@ -30,7 +32,7 @@ impl<'a> FrameLine<'a> {
         ensures { IfSome result (λ frame. IsFrameOf self.now frame) }
     {
         let stamp = Stamp::new(self.second + decimals(self.front))?;
-        let bytes = ArrayVec::from_array_in((), self.bytes);
+        let bytes = ArrayVec::from_array_in((), pairs(values_of(self.data), 16));
         Some(Frame::from_parts(stamp, self.id, bytes))
     }
 

@@ -7,7 +7,6 @@ ghost use Rattle.j39_log.specs.FrameLine.{BeginsLine, EndsAt, HasForm};
 
 use crate::fast::form::{have_form, values_of};
 use crate::fast::frame_line::FrameLine;
-use crate::fast::lanes::pairs;
 use crate::fast::plain::is_digit;
 use crate::{Bus, LastSecond};
 
@@ -131,7 +130,7 @@ fn formed<'a>(
         front,
         second,
         id,
-        bytes: pairs(values, 16),
+        data,
     };
     Some((line, rest))
 }

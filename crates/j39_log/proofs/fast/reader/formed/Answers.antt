@@ -1,10 +1,8 @@
 -- The form of each part, and the identifier.
-use Rattle.std.proofs.Common.{◌++◌, ◌∷◌, ◌∙◌, ℕ, List, Ok, ap, arith, drop, length, map, subst, take, sym}
+use Rattle.std.proofs.Common.{◌++◌, ◌∷◌, ◌∙◌, ap, arith, drop, subst, take, sym}
 use Rattle.std.proofs.lemmas.Bool.{OnTrue_at}
 use Rattle.j39_log.specs.Bus.{IsBetween, IsBusName}
 use Rattle.j39_log.specs.Form.{Fits}
-use Rattle.std.specs.List.{range_with_len}
-use Rattle.j39_log.specs.Lanes.{pair_at}
 use Rattle.j39_log.specs.LastSecond.{HasSecond}
 use Rattle.j39_log.proofs.ReaderLemmas.{front_found, third_parts}
 use Rattle.j39_log.proofs.fast.reader.formed.Goals as goal
@@ -23,7 +21,6 @@ returns c =
     let p = third_parts text c.in_ok-third.third.now c.in_ok-digits.digits.now c.in_ok-digits.third.now c.in_ok-hash.third.now c.in_ok-data.data.now c.in_ok-data.third.now c.in_ok-end.field-0-1.now
     c.in_ok-third.rest.now c.in_ok-hash.hash.now c.in_ok-end.end.now third.0 third.1 (omega (arith, third.2)) (digits.0 ∙ ap (take 8) c.as_slice.ensures) (digits.1 ∙ ap (drop 8) c.as_slice.ensures) c.in_ok-hash.ensures.cases.0
     d.0 d.1 c.in_ok-end.ensures.cases.0 in
-    let values = OnTrue_at c.if-not-have_form.false c.have_form.ensures.values in
     record {
       front = front_found bytes c.args.between.now bus _ c.last.inside.0.0.form c.bus.inside.between (omega (arith, first.2)) c.told-between front.0
           (subst (λ block. Fits block c.last.inside.0.0.form) first.0 (OnTrue_at c.if-not-have_form.false c.have_form.ensures.first)) has
@@ -31,15 +28,12 @@ returns c =
       within = omega arith;
       third = record {
         digits = c.in_ok-digits.digits.now;
-        pairs = c.in_ok-data.data.now;
         end = c.in_ok-end.end.now ∷ c.in_ok-third.rest.now;
         text_is = sym c.split_at.ensures.back ∙ p.0 ∙ ap (λ m. c.in_ok-digits.digits.now ++ (m ∷ (c.in_ok-data.data.now ++ (c.in_ok-end.end.now ∷ c.in_ok-third.rest.now)))) c.if-hash-ne35.false;
         digits_fit = p.1;
-        pairs_fit = p.2;
+        data_fit = p.2;
         written = c.in_ok-id.ensures.some;
-        bytes_are = c.values_of-values.ensures.digits values
-            ∙ ap (λ (bytes : List ℕ). Ok bytes) (sym (c.pairs.ensures ∙ ap (λ v. map (pair_at 16 v) (range_with_len 0 8)) c.values_of-values.ensures.value));
-        bytes_fit = ap length c.pairs.ensures;
+        bytes_are = c.values_of-values.ensures.digits (OnTrue_at c.if-not-have_form.false c.have_form.ensures.values);
         ends = c.in_ok-rest.ensures;
       };
     }

@@ -1,5 +1,7 @@
 -- The stamp is the second and the decimals.
-use Rattle.std.proofs.Common.{◌∙◌, ◌++◌, [], ◌∷◌, ap, subst, sym}
+use Rattle.std.proofs.Common.{◌∙◌, ◌++◌, [], ◌∷◌, ap, map, subst, sym}
+use Rattle.std.specs.List.{range_with_len}
+use Rattle.j39_log.specs.Lanes.{pair_at}
 use Rattle.j39_frame.specs.Frame.{FrameRecord}
 use Rattle.j39_log.proofs.StampLaneLemmas.{stamp_read}
 use Rattle.j39_log.specs.Text.{IsStampText}
@@ -14,5 +16,5 @@ returns c =
       stamp_is = λ begins cut digits short. subst (IsStampText (front ++ (cut ++ (41 ∷ [])))) (sym stamp)
           (stamp_read front cut _ _ begins.second (c.decimals.ensures.value _ begins.second begins.decimals) digits short);
       id_is = ap (λ (f : FrameRecord). f.id) is;
-      bytes_are = ap (λ (f : FrameRecord). f.bytes) is ∙ c.from_array_in-bytes.ensures.items;
+      bytes_are = ap (λ (f : FrameRecord). f.bytes) is ∙ c.from_array_in-bytes.ensures.items ∙ c.pairs.ensures ∙ ap (λ v. map (pair_at 16 v) (range_with_len 0 8)) c.values_of.ensures.value;
     }
