@@ -80,7 +80,9 @@ impl Heads {
         let place = usize::from(heard.message.source);
         self.find(place, heard.message.source, heard.name);
         *head = self.senders[place].head;
-        let _ = self.stamp.stamp_before(head, STAMP_END, heard.message.stamp);
+        let _ = self
+            .stamp
+            .stamp_before(head, STAMP_END, heard.message.stamp);
     }
 
     /// Sees to it that the head of a sender is remembered.

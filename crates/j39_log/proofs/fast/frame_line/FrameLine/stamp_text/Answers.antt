@@ -1,5 +1,5 @@
 -- The text is the line's front and a parenthesis.
-use Rattle.std.proofs.Common.{◌≡◌, ◌+◌, ◌∙◌, arith}
+use Rattle.std.proofs.Common.{◌≡◌, ◌∙◌, arith}
 use Rattle.j39_log.proofs.StampLaneLemmas.{stamp_written}
 use Rattle.j39_log.proofs.fast.frame_line.FrameLine.stamp_text.Goals as goal
 
