@@ -12,6 +12,7 @@ pub mod RowLemmas
 -- where they are sought, and what they give
 pub mod RunLemmas
 pub mod ReadLemmas
+pub mod LineTextLemmas
 pub mod SightingLemmas
 pub mod VisitLemmas
 pub mod RestrictedLemmas

@@ -22,4 +22,5 @@ pub mod Fields
 pub mod Ready
 pub mod Rows
 pub mod Runs
+pub mod LineTexts
 pub mod Picks
