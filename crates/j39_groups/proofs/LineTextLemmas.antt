@@ -41,14 +41,6 @@ number_of_byte byte raw bytes some here =
     let inside : nat_le byte (length bytes) ≡ true = le-leb _ _ (omega arith) in
     rw inside (ap (λ part. Some (little_number (byte - (byte - 1)) part)) (one_byte bytes (byte - 1) (byte - (byte - 1)) raw (omega arith) here))
 
-bits_of_byte : (byte low count raw : ℕ) (bytes : List ℕ) → 0 < byte → last_byte byte low count ≡ byte → slice_get bytes (byte - 1) ≡ Some raw
-    → raw_bits byte low count bytes ≡ Some (little_number (byte - (byte - 1)) (raw ∷ []) / 2 ^ (low - 1) % 2 ^ count)
-unfolding raw_bits
-bits_of_byte byte low count raw bytes some last here =
-    let below = slice_get_within bytes (byte - 1) raw here in
-    let inside : nat_le byte (length bytes) ≡ true = le-leb _ _ (omega arith) in
-    rw (last, inside) (ap (λ part. Some (little_number (byte - (byte - 1)) part / 2 ^ (low - 1) % 2 ^ count)) (one_byte bytes (byte - 1) (byte - (byte - 1)) raw (omega arith) here))
-
 if_some : (p : Bool) (n : ℕ) → 0 < (if p then n else 0) → p ≡ true
 if_some true n h = refl
 if_some false n h = absurd (omega (arith, h))
@@ -65,14 +57,7 @@ same_values (Number first last scale) bytes others raw sound some here there =
     let a = number_of_byte first raw bytes starts (rw lone at here) in
     let b = number_of_byte first raw others starts (rw lone at there) in
     rw (← same, a, b) refl
-same_values (Bits byte low count scale) bytes others raw sound some here there =
-    let inside = if_some (nat_le (low + count) 9) byte some in
-    let few : low + count ≤ 9 = leb-true _ _ inside in
-    let starts = sound.byte_starts in
-    let last : last_byte byte low count ≡ byte = omega (arith, sound.starts, sound.some, few, starts) in
-    let a = bits_of_byte byte low count raw bytes starts last (rw inside at here) in
-    let b = bits_of_byte byte low count raw others starts last (rw inside at there) in
-    rw (a, b) refl
+same_values (Bits byte low count scale) bytes others raw sound some here there = absurd (omega (arith, some))
 same_values (Full byte low count is_signed scale) bytes others raw sound some here there = absurd (omega (arith, some))
 same_values (Switch byte low high) bytes others raw sound some here there = rw (here, there) refl
 same_values (Text part) bytes others raw sound some here there = absurd (omega (arith, some))
@@ -86,7 +71,7 @@ short_list (Some x) = omega arith
 pub one_value : (field : Field) (bytes : List ℕ) → 0 < only_byte field → length (values_at bytes (field_record field)) ≤ 1
 unfolding values_at
 one_value (Number first last scale) bytes some = short_list _
-one_value (Bits byte low count scale) bytes some = short_list _
+one_value (Bits byte low count scale) bytes some = absurd (omega (arith, some))
 one_value (Full byte low count is_signed scale) bytes some = absurd (omega (arith, some))
 one_value (Switch byte low high) bytes some = short_list _
 one_value (Text part) bytes some = absurd (omega (arith, some))

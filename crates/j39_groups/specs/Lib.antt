@@ -23,4 +23,5 @@ pub mod Ready
 pub mod Rows
 pub mod Runs
 pub mod LineTexts
+pub mod GroupParts
 pub mod Picks

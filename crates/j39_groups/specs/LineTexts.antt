@@ -8,10 +8,10 @@ use Rattle.j39_groups.specs.declared.row.Row.{Row}
 use Rattle.j39_groups.specs.declared.runs.Part.{Part}
 use Rattle.j39_groups.specs.Lines.{readings_by, row_lines}
 
--- the byte that a number or a switch has all its bits in; 0 where there is none
+-- the byte that is a number, or has a switch; 0 where there is none
 abbrev pub only_byte : Field → ℕ
 only_byte (Number first last scale) = if first == last then first else 0
-only_byte (Bits byte low count scale) = if nat_le (low + count) 9 then byte else 0
+only_byte (Bits byte low count scale) = 0
 only_byte (Full byte low count is_signed scale) = 0
 only_byte (Switch byte low high) = byte
 only_byte (Text part) = 0

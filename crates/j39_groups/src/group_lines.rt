@@ -1,5 +1,6 @@
 //! The lines of the readings by the rows of a group.
 ghost use Rattle.std.specs.Prelude.{◌≡◌, ◌≤◌, ◌-◌, ◌*◌, IfOk, drop, length, map, true};
+ghost use Rattle.std.proofs.Props.{props};
 ghost use Rattle.std.specs.List.{flat_map, list_all};
 ghost use Rattle.j39_io.specs.Puts.{Puts};
 ghost use Rattle.j39_io.specs.Turn.{turn};
@@ -8,6 +9,7 @@ ghost use Rattle.j39_groups.specs.Models.{row_record};
 ghost use Rattle.j39_groups.specs.Readings.{readings_at};
 ghost use Rattle.j39_groups.specs.Rows.{is_row};
 
+use crate::group_parts::GroupParts;
 use crate::groups_table::Groups;
 use crate::line_texts::LineTexts;
 use crate::lines::put_found;
@@ -29,8 +31,10 @@ const PART: usize = 8;
 pub struct LineWriter<'g, 't> {
     /// The table.
     pub groups: &'g Groups<'t>,
+    parts: GroupParts<'g, 't>,
     block: [u8; LINES],
     texts: LineTexts<'g, 't>,
+    ghost table: { parts.groups ≡ groups } by { Prim.hlevel props },
     ghost rows: { map row_record texts.rows.now ≡ groups.now },
     ghost sound: { list_all is_row texts.rows.now ≡ true },
     ghost few: { length texts.rows.now ≤ 65536 },
@@ -52,6 +56,7 @@ impl<'g, 't> LineWriter<'g, 't> {
     {
         LineWriter {
             groups,
+            parts: GroupParts::new(groups),
             block: [0; LINES],
             texts: LineTexts::new(groups.rows()),
         }
@@ -76,7 +81,7 @@ impl<'g, 't> LineWriter<'g, 't> {
             result (turn W.written W.has_failed sink.old sink.new) }
         ensures table { self.new.groups ≡ self.old.groups }
     {
-        let part = self.groups.part_for(pgn.raw());
+        let part = self.parts.of(pgn);
         self.put_rows(part, head, from, bytes, sink)
     }
 

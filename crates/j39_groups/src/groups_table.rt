@@ -1,5 +1,5 @@
 //! A table of parameters, as its callers see it.
-ghost use Rattle.std.specs.Prelude.{◌≡◌, ◌==◌, ◌-◌, ◌<◌, ◌≤◌, IfOk, IfSome, IsOk, None, OnErr, OnOk, Some, drop, length, map, take, true};
+ghost use Rattle.std.specs.Prelude.{◌≡◌, ◌==◌, ◌<◌, ◌≤◌, IfOk, IfSome, IsOk, None, OnErr, OnOk, Some, length, map, true};
 ghost use Rattle.std.specs.List.{list_all};
 ghost use Rattle.std.specs.List.Sorted.{IsNonDecreasingBy};
 ghost use Rattle.std.specs.Option.{option_copied, option_map};
@@ -8,6 +8,7 @@ ghost use Rattle.j39_frame.specs.Pgn.{pgn_raw};
 ghost use Rattle.j39_io.specs.Puts.{Puts};
 ghost use Rattle.j39_io.specs.Turn.{turn};
 ghost use Rattle.j39_groups.specs.GivenRows.{rows_in};
+ghost use Rattle.j39_groups.specs.GroupParts.{IsPart};
 ghost use Rattle.j39_groups.specs.Models.{listed_rows, row_record, value_of};
 ghost use Rattle.j39_groups.specs.Names.{group_name_in, name_in, parameter_name, state_in};
 ghost use Rattle.j39_groups.specs.Printed.{rows_text};
@@ -110,11 +111,8 @@ impl<'t> Groups<'t> {
     }
 
     /// Which of all rows are those of a group.
-    #[inline(always)]
     pub(crate) fn part_for(&self, pgn: u32) -> Part
-        ensures rows { take (result.end - result.first) (drop result.first self.now) ≡ group_rows pgn self.now }
-        ensures ordered { result.first ≤ result.end }
-        ensures inside { result.end ≤ length self.now }
+        ensures { IsPart self.now pgn result }
     {
         part_for(&self.runs, rows_of(&self.listed), pgn)
     }

@@ -5,6 +5,7 @@ mod bare;
 mod by_number;
 mod field;
 mod group_lines;
+mod group_parts;
 mod groups_table;
 pub mod laws;
 mod line_texts;

@@ -1,10 +1,11 @@
 //! The lines of the readings by a group's rows, in one block, the last line first.
-ghost use Rattle.std.specs.Prelude.{◌≡◌, ◌+◌, ◌-◌, ◌/◌, ◌%◌, ◌<◌, ◌≤◌, ◌++◌, ◌∷◌, [], ℕ, List, IfSome, Some, drop, length, slice_get, slice_index_or, true};
+ghost use Rattle.std.specs.Prelude.{◌≡◌, ◌+◌, ◌-◌, ◌/◌, ◌%◌, ◌<◌, ◌≤◌, ◌++◌, ◌∷◌, [], ℕ, List, IfSome, IsSome, Some, drop, length, slice_get, slice_index_or, true};
 ghost use Rattle.std.specs.Fmt.{sign_text};
 ghost use Rattle.std.specs.List.{flat_map, list_all};
 ghost use Rattle.std.specs.Option.{option_map, option_to_list};
 ghost use Rattle.j39_io.specs.Backwards.{WritesBefore};
 ghost use Rattle.j39_io.specs.Chars.{newline};
+ghost use Rattle.j39_groups.specs.Fields.{IsSound};
 ghost use Rattle.j39_groups.specs.LineTexts.{LinesWritten, RestWritten, only_byte, part_of};
 ghost use Rattle.j39_groups.specs.Lines.{in_group, reading_line, readings_by, row_lines};
 ghost use Rattle.j39_groups.specs.Models.{field_record, field_slot, row_record, short_value};
@@ -64,7 +65,11 @@ pub(crate) fn rows_before(
     'rows: while left > 0 {
         left -= 1;
         let key = ((part.first + left) * 256) as u32;
-        let text = text_before(out, at, texts, key, &rows[left], bytes)?;
+        let row = &rows[left];
+        if row.prepared.is_none() {
+            return None;
+        }
+        let text = text_before(out, at, texts, key, row, bytes);
         let (start, more) = head_before(out, at, text, head, from);
         at = start;
         lines += more;
@@ -106,16 +111,17 @@ fn text_before(
     key: u32,
     row: &Row<'_>,
     bytes: &[u8],
-) -> Option<usize>
+) -> usize
     requires room { 72 ≤ end }
     requires within { end ≤ length out.old }
     requires sound { is_row row.now ≡ true }
+    requires ready { IsSome row.now.prepared }
     requires below { key / 256 < length texts.old.rows.now }
     requires first { key % 256 ≡ 0 }
     requires fits { key / 256 < 65536 }
     requires row { (d : Row) → slice_index_or texts.old.rows.now (key / 256) d ≡ row.now }
-    ensures written { IfSome result (λ start. RestWritten out.old out.new end start row.now bytes.now) }
-    ensures short { IfSome result (λ start. end ≤ start + 72) }
+    ensures written { RestWritten out.old out.new end result row.now bytes.now }
+    ensures short { end ≤ result + 72 }
     ensures table { texts.new.rows ≡ texts.old.rows }
 {
     let Some(raw) = only_byte(&row.field, bytes) else {
@@ -123,30 +129,22 @@ fn text_before(
     };
     let key = key + u32::from(raw);
     match texts.find(key) {
-        Some(known) => Some(tail_before(out, end, &known.bytes, usize::from(known.from))),
+        Some(known) => tail_before(out, end, &known.bytes, usize::from(known.from)),
         None => learn(out, end, texts, key, row, bytes),
     }
 }
 
-/// The byte that a number or a switch has all its bits in, where it has one and the payload has this.
+/// The byte that is a number, or has a switch, where there is one and the payload has it.
 #[inline(always)]
 fn only_byte(field: &Field<'_>, bytes: &[u8]) -> Option<u8>
+    requires { IsSound field.now }
     ensures { IfSome result (λ raw. (0 < only_byte field.now) × (slice_get bytes.now (only_byte field.now - 1) ≡ Some raw)) }
 {
     let byte = match field {
         Field::Number { first, last, .. } if first == last => *first,
         Field::Switch { byte, .. } => *byte,
-        Field::Bits {
-            byte,
-            low,
-            count,
-            ..
-        } if usize::from(*low) + usize::from(*count) <= 9 => *byte,
-        _ => 0,
+        _ => return None,
     };
-    if byte == 0 {
-        return None;
-    }
     bytes.get(usize::from(byte) - 1).copied()
 }
 
@@ -159,42 +157,43 @@ fn learn(
     key: u32,
     row: &Row<'_>,
     bytes: &[u8],
-) -> Option<usize>
+) -> usize
     requires room { 72 ≤ end }
     requires within { end ≤ length out.old }
     requires sound { is_row row.now ≡ true }
+    requires ready { IsSome row.now.prepared }
     requires row { (d : Row) → slice_index_or texts.old.rows.now (key / 256) d ≡ row.now }
     requires some { 0 < only_byte row.now.field }
     requires byte { slice_get bytes.now (only_byte row.now.field - 1) ≡ Some (key % 256) }
-    ensures written { IfSome result (λ start. RestWritten out.old out.new end start row.now bytes.now) }
-    ensures short { IfSome result (λ start. end ≤ start + 72) }
+    ensures written { RestWritten out.old out.new end result row.now bytes.now }
+    ensures short { end ≤ result + 72 }
     ensures table { texts.new.rows ≡ texts.old.rows }
 {
-    let start = value_text_before(out, end, row, bytes)?;
+    let start = value_text_before(out, end, row, bytes);
     if end - start <= LONGEST {
         let mut last = [0; LONGEST];
         last.copy_from_slice(&out[end - LONGEST..end]);
         texts.keep(key, last, (LONGEST - (end - start)) as u8);
     }
-    Some(start)
+    start
 }
 
 /// The same, as the row says.
-#[inline(always)]
-fn value_text_before(out: &mut [u8], end: usize, row: &Row<'_>, bytes: &[u8]) -> Option<usize>
+#[inline(never)]
+fn value_text_before(out: &mut [u8], end: usize, row: &Row<'_>, bytes: &[u8]) -> usize
     requires room { 72 ≤ end }
     requires within { end ≤ length out.old }
     requires sound { is_row row.now ≡ true }
-    ensures written { IfSome result (λ start. RestWritten out.old out.new end start row.now bytes.now) }
-    ensures short { IfSome result (λ start. end ≤ start + 72) }
+    requires ready { IsSome row.now.prepared }
+    ensures written { RestWritten out.old out.new end result row.now bytes.now }
+    ensures short { end ≤ result + 72 }
 {
-    let prepared = row.prepared.as_ref()?;
+    let Some(prepared) = row.prepared.as_ref() else {
+        return end;
+    };
     match ready_value(row, prepared, bytes) {
-        Some(short) => {
-            let start = labelled_before(out, end, row, prepared, short);
-            Some(start)
-        }
-        None => Some(end),
+        Some(short) => labelled_before(out, end, row, prepared, short),
+        None => end,
     }
 }
 

@@ -8,10 +8,10 @@ rows-init c = (none_written _ _ _ _, refl)
 
 pub rows-preserved : goal.rows-preserved
 rows-preserved c =
-    let line = c.head_before-start.ensures.line _ _ _ c.in_ok-text.ensures.written in (
+    let line = c.head_before-start.ensures.line _ _ _ c.text_before-text.ensures.written in (
       row_more _ _ _ _ _ _ c.rows.left c.rows.at c.rows.lines _ _ _ c.rows.invariant.0 (omega (arith, c.rows-test.true)) line
-          c.head_before-start.ensures.one (let text = c.in_ok-text.ensures.short in let start = c.head_before-start.ensures.short in omega (arith, text, start)),
-      c.in_ok-text.ensures.table ∙ c.rows.invariant.1,
+          c.head_before-start.ensures.one (let text = c.text_before-text.ensures.short in let start = c.head_before-start.ensures.short in omega (arith, text, start)),
+      c.text_before-text.ensures.table ∙ c.rows.invariant.1,
     )
 
 pub returns-clause-written : goal.returns-clause-written

@@ -2,6 +2,8 @@
 use Rattle.std.proofs.Common.{◌+◌, drop, subst, sym, arith}
 use Rattle.j39_io.specs.Backwards.{WritesBefore}
 use Rattle.j39_groups.proofs.LineTextLemmas.{one_reading, one_value, rest_at}
+use Rattle.j39_groups.proofs.ReadyLemmas.{field_sound}
+use Rattle.j39_groups.proofs.RowLemmas.{row_is}
 use Rattle.j39_groups.proofs.rows_before.text_before.Goals as goal
 
 pub returns-in-Some-find-clause-written : goal.returns-in-Some-find-clause-written
@@ -13,3 +15,6 @@ returns-in-Some-find-clause-written c = record {
       c.tail_before.ensures.written);
   one = one_reading c.args.row.now c.args.bytes.now (one_value c.args.row.now.field c.args.bytes.now c.in-Some.ensures.0);
 }
+
+pub only_byte-requires : goal.only_byte-requires
+only_byte-requires c = field_sound c.args.row.now.field (row_is c.args.row.now c.requires.sound).sound
