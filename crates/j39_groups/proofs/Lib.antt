@@ -12,7 +12,6 @@ pub mod RowLemmas
 -- where they are sought, and what they give
 pub mod RunLemmas
 pub mod ReadLemmas
-pub mod LineTextLemmas
 pub mod SightingLemmas
 pub mod VisitLemmas
 pub mod RestrictedLemmas

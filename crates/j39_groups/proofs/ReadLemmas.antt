@@ -10,7 +10,6 @@ use Rattle.std.proofs.lemmas.List.Folds.{flat_map-map}
 use Rattle.j39_io.specs.Backwards.{WritesBefore}
 use Rattle.j39_io.proofs.BackwardsLemmas.{before_none, before_then}
 use Rattle.j39_groups.specs.declared.row.Row.{Row}
-use Rattle.j39_groups.specs.LineTexts.{LinesWritten}
 use Rattle.j39_groups.specs.Lines.{in_group, reading_line, readings_by, row_lines, row_readings}
 use Rattle.j39_groups.specs.Models.{row_record}
 use Rattle.j39_groups.specs.Names.{row_at, row_in}
@@ -146,9 +145,10 @@ none_written head bytes rows old =
 -- the lines of the row before are written too
 pub row_more : (head bytes : List ℕ) (rows : List Row) (old new newer : List ℕ) (left at lines start more : ℕ) (d : Row)
     → RowsWritten head bytes rows old new left at lines → 0 < left
-    → LinesWritten new newer at start more head (get_or rows (left - 1) d) bytes → more ≤ 1 → at ≤ start + 120
+    → WritesBefore new newer at start (row_lines head bytes (get_or rows (left - 1) d))
+    → more ≡ length (readings_by bytes (get_or rows (left - 1) d)) → more ≤ 1 → at ≤ start + 120
     → RowsWritten head bytes rows old newer (left - 1) start (lines + more)
-row_more head bytes rows old new newer left at lines start more d w some line few near =
+row_more head bytes rows old new newer left at lines start more d w some line count few near =
     let row = get_or rows (left - 1) d in
     let next : suc (left - 1) ≡ left = omega (arith, some) in
     let cut : drop (left - 1) rows ≡ row ∷ drop left rows =
@@ -159,11 +159,11 @@ row_more head bytes rows old new newer left at lines start more d w some line fe
       inside = omega (arith, w.inside);
       text = subst (WritesBefore old newer 960 start)
           (sym (flat_map-cons (row_lines head bytes) row (drop left rows)) ∙ ap (flat_map (row_lines head bytes)) (sym cut))
-          (before_then _ _ _ _ _ _ _ _ w.text line.text);
+          (before_then _ _ _ _ _ _ _ _ w.text line);
       count = (
           let same = ap length lists in
           let both = length-append (readings_by bytes row) (flat_map (readings_by bytes) (drop left rows)) in
-          omega (arith, same, both, w.count, line.count)
+          omega (arith, same, both, w.count, count)
           );
       fewer = omega (arith, w.fewer, few, some);
       room = omega (arith, w.room, w.inside, near, some);

@@ -22,6 +22,4 @@ pub mod Fields
 pub mod Ready
 pub mod Rows
 pub mod Runs
-pub mod LineTexts
-pub mod GroupParts
 pub mod Picks

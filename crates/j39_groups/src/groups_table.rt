@@ -1,6 +1,6 @@
 //! A table of parameters, as its callers see it.
-ghost use Rattle.std.specs.Prelude.{◌≡◌, ◌==◌, ◌<◌, ◌≤◌, IfOk, IfSome, IsOk, None, OnErr, OnOk, Some, length, map, true};
-ghost use Rattle.std.specs.List.{list_all};
+ghost use Rattle.std.specs.Prelude.{◌≡◌, ◌==◌, ◌<◌, ◌≤◌, IfOk, IfSome, IsOk, None, OnErr, OnOk, Some, drop, length, map, true};
+ghost use Rattle.std.specs.List.{flat_map, list_all};
 ghost use Rattle.std.specs.List.Sorted.{IsNonDecreasingBy};
 ghost use Rattle.std.specs.Option.{option_copied, option_map};
 ghost use Rattle.std.proofs.Props.{props};
@@ -8,7 +8,7 @@ ghost use Rattle.j39_frame.specs.Pgn.{pgn_raw};
 ghost use Rattle.j39_io.specs.Puts.{Puts};
 ghost use Rattle.j39_io.specs.Turn.{turn};
 ghost use Rattle.j39_groups.specs.GivenRows.{rows_in};
-ghost use Rattle.j39_groups.specs.GroupParts.{IsPart};
+ghost use Rattle.j39_groups.specs.Lines.{in_group, reading_line};
 ghost use Rattle.j39_groups.specs.Models.{listed_rows, row_record, value_of};
 ghost use Rattle.j39_groups.specs.Names.{group_name_in, name_in, parameter_name, state_in};
 ghost use Rattle.j39_groups.specs.Printed.{rows_text};
@@ -20,13 +20,15 @@ ghost use Rattle.j39_groups.specs.Table.{the_table};
 ghost use Rattle.j39_groups.specs.Value.{ValueRecord};
 ghost use Rattle.j39_groups.specs.Visits.{Stops, Takes};
 
+use crate::group_lines::put_rows;
 use crate::listed::{LentRows, Listed, rows_of};
 use crate::names::{group_name_in, name_in, row_in_group};
 use crate::printed;
 use crate::restricted::restricted_rows;
 use crate::row::Row;
 use crate::rows::Rows;
-use crate::runs::{Part, Run, has_group, part_for, run_of, runs_of};
+use crate::rows_before::{HEAD, LINES};
+use crate::runs::{Run, has_group, run_of, runs_of};
 use crate::states::{called, called_alone, called_by, state_by};
 use crate::table::built_in_rows;
 use crate::value::Value;
@@ -101,22 +103,6 @@ impl<'t> Groups<'t> {
         run_of(&self.runs, rows_of(&self.listed), pgn)
     }
 
-    /// All rows.
-    pub(crate) fn rows(&self) -> &[Row<'t>]
-        ensures rows { map row_record result.now ≡ self.now }
-        ensures sound { list_all is_row result.now ≡ true }
-        ensures few { length result.now ≤ 65536 }
-    {
-        rows_of(&self.listed)
-    }
-
-    /// Which of all rows are those of a group.
-    pub(crate) fn part_for(&self, pgn: u32) -> Part
-        ensures { IsPart self.now pgn result }
-    {
-        part_for(&self.runs, rows_of(&self.listed), pgn)
-    }
-
     /// The table with the rows of these parameters (SPN) alone; those of a group stay in their order. An `Err` comes
     /// for want of memory alone, and not where no row is kept.
     pub fn restricted_to(&self, alloc: Global, spns: &[u32]) -> Result<Groups<'t>, AllocError>
@@ -158,6 +144,29 @@ impl<'t> Groups<'t> {
         ensures { Puts (rows_text self.now) result (turn W.written W.has_failed sink.old sink.new) }
     {
         printed::put_rows(rows_of(&self.listed), sink)
+    }
+
+    /// Writes a line for each reading of a payload: the bytes of `head` from `from` on, the group's number (PGN), a space,
+    /// the parameter's (SPN), a space, the value's text and a newline; answers how many. What stands in `block` afterwards
+    /// is not known. After a fault a front of the lines was written.
+    #[inline(always)]
+    pub fn put_lines<W: Sink>(
+        &self,
+        block: &mut [u8; LINES],
+        head: &[u8; HEAD],
+        from: usize,
+        pgn: Pgn,
+        bytes: &[u8],
+        sink: &mut W,
+    ) -> Result<u64, DeviceFault>
+        requires { from ≤ 48 }
+        ensures lines { IfOk result (λ n. n ≡ length (readings_in self.now (pgn_raw pgn) bytes.now)) }
+        ensures puts { Puts (flat_map (reading_line (in_group (drop from head.now) (pgn_raw pgn)))
+            (readings_in self.now (pgn_raw pgn) bytes.now))
+            result (turn W.written W.has_failed sink.old sink.new) }
+    {
+        let pgn = pgn.raw();
+        put_rows(block, self.rows_for(pgn), head, from, bytes, sink)
     }
 
     /// Hands each reading of a payload to a visitor, and each parameter whose number is not available, in the table's order.

@@ -2,7 +2,6 @@
 ghost use Rattle.std.specs.Prelude.{◌≡◌, ◌==◌, ◌+◌, ◌<◌, ◌≤◌, ℕ, filter, length, take, true};
 ghost use Rattle.std.specs.List.{list_all, list_any};
 ghost use Rattle.j39_groups.specs.Rows.{StandTogether, is_listed_group, is_row};
-ghost use Rattle.j39_groups.specs.LineTexts.{part_of};
 ghost use Rattle.j39_groups.specs.Runs.{AreRuns, bounds_of, place_of};
 
 use crate::row::Row;
@@ -51,13 +50,6 @@ impl Run {
     }
 }
 
-/// Rows of a table, from the first up to the end.
-#[derive(Clone, Copy)]
-pub(crate) struct Part {
-    pub first: usize,
-    pub end: usize,
-}
-
 /// The runs of the places of these rows.
 pub(crate) fn runs_of(rows: &[Row<'_>]) -> [Run; PLACES]
     requires few { length rows.now ≤ 65536 }
@@ -73,23 +65,6 @@ pub(crate) fn runs_of(rows: &[Row<'_>]) -> [Run; PLACES]
     runs
 }
 
-/// Which rows are those of a group.
-#[inline(always)]
-pub(crate) fn part_for(runs: &[Run; PLACES], rows: &[Row<'_>], pgn: u32) -> Part
-    requires runs { AreRuns runs.now rows.now }
-    requires sound { list_all is_row rows.now ≡ true }
-    ensures same { part_of rows.now result ≡ filter (λ row. row.pgn == pgn) rows.now }
-    ensures ordered { result.first ≤ result.end }
-    ensures inside { result.end ≤ length rows.now }
-{
-    let (first, end) = runs[place_of(pgn)].bounds();
-    if is_first(&rows[first..end], pgn) {
-        Part { first, end }
-    } else {
-        Part { first: 0, end: 0 }
-    }
-}
-
 /// The rows of a group.
 #[inline(always)]
 pub(crate) fn run_of<'r, 't>(runs: &[Run; PLACES], rows: &'r [Row<'t>], pgn: u32) -> &'r [Row<'t>]
@@ -98,8 +73,9 @@ pub(crate) fn run_of<'r, 't>(runs: &[Run; PLACES], rows: &'r [Row<'t>], pgn: u32
     ensures same { result.now ≡ filter (λ row. row.pgn == pgn) rows.now }
     ensures few { length result.now ≤ length rows.now }
 {
-    let part = part_for(runs, rows, pgn);
-    &rows[part.first..part.end]
+    let (first, end) = runs[place_of(pgn)].bounds();
+    let rows = &rows[first..end];
+    if is_first(rows, pgn) { rows } else { &[] }
 }
 
 /// Whether the first of these rows is of a group.

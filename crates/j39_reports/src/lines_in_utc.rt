@@ -15,7 +15,7 @@ ghost use Rattle.j39_reports.specs.EntryInUtc.{MakesInUtc, entry_in_utc, sender_
 
 use crate::second::Second;
 use j39_address::Name;
-use j39_groups::{Groups, HEAD, LineWriter};
+use j39_groups::{Groups, HEAD, LINES};
 use j39_io::backwards::{byte_before, bytes_before, hex_before};
 use j39_io::vectors::hex_of_eight;
 use j39_io::{DeviceFault, Sink, Source};
@@ -26,18 +26,20 @@ use std::alloc::Global;
 /// What the lines of a message are made with, kept from message to message.
 #[derive(Drop)]
 pub(crate) struct UtcPen<'g, 't> {
-    lines: LineWriter<'g, 't>,
+    groups: &'g Groups<'t>,
+    block: [u8; LINES],
     second: Second,
 }
 
 impl<'g, 't> UtcPen<'g, 't> {
     /// By a table of parameters, with nothing written, at the second 0.
     pub fn new(groups: &'g Groups<'t>) -> UtcPen<'g, 't>
-        ensures groups { result.lines.groups ≡ groups.entry }
+        ensures groups { result.groups ≡ groups.entry }
         ensures second { result.second.value ≡ 0 }
     {
         UtcPen {
-            lines: LineWriter::new(groups),
+            groups,
+            block: [0; LINES],
             second: Second::new(0),
         }
     }
@@ -48,13 +50,14 @@ impl<'g, 't> EntryForm for UtcPen<'g, 't> {
 
     ghost text_by = { λ groups. entry_in_utc };
 
-    ghost table_of = { λ pen. pen.lines.groups.now };
+    ghost table_of = { λ pen. pen.groups.now };
 
     #[inline(always)]
     fn put_heard<W: Sink>(&mut self, heard: &Heard<'_>, sink: &mut W) -> Result<u64, DeviceFault> {
         let mut head = [0; HEAD];
         let from = head_before(&mut head, heard, &mut self.second);
-        match self.lines.put_lines(
+        match self.groups.put_lines(
+            &mut self.block,
             &head,
             from,
             heard.message.pgn,

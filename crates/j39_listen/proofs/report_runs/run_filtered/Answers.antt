@@ -36,6 +36,6 @@ returns-clause-asked g c = if_ok c.run_over.result _ _
 pub returns-clause-kept_up : goal.returns-clause-kept_up
 returns-clause-kept_up g c = λ read.
     let subject : Subject = record { rows = c.args.wanted.groups.now; which = which_of c.args.wanted.filter } in
-    whole_lines (λ bus. HasReported (λ groups. entry_text) (λ (pen : Pen). pen.lines.groups.now) subject) (MakesFiltered c.args.wanted.groups.now (which_of c.args.wanted.filter)) (reported_makes (λ groups. entry_text) subject (λ (pen : Pen). pen.lines.groups.now))
+    whole_lines (λ bus. HasReported (λ groups. entry_text) (λ (pen : Pen). pen.groups.now) subject) (MakesFiltered c.args.wanted.groups.now (which_of c.args.wanted.filter)) (reported_makes (λ groups. entry_text) subject (λ (pen : Pen). pen.groups.now))
     c.args.bus _ _ _ _
     (c.run_over.ensures.kept_up read subject (filtered_of (λ groups. entry_text) c.args.wanted.groups.now (which_of c.args.wanted.filter) 0 []) (λ name. c.new-report.ensures) refl)

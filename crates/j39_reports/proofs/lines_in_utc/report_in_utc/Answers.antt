@@ -10,7 +10,7 @@ returns-clause-ran g c = c.run_over.ensures.ran (record { rows = c.args.wanted.g
 pub returns-clause-kept_up : goal.returns-clause-kept_up
 returns-clause-kept_up g c = λ read.
     let subject : Subject = record { rows = c.args.wanted.groups.now; which = which_of c.args.wanted.filter } in
-    whole_lines (λ bus. HasReported (λ groups. entry_in_utc) (λ (pen : UtcPen). pen.lines.groups.now) subject) (MakesInUtc c.args.wanted.groups.now (which_of c.args.wanted.filter)) (reported_makes (λ groups. entry_in_utc) subject (λ (pen : UtcPen). pen.lines.groups.now))
+    whole_lines (λ bus. HasReported (λ groups. entry_in_utc) (λ (pen : UtcPen). pen.groups.now) subject) (MakesInUtc c.args.wanted.groups.now (which_of c.args.wanted.filter)) (reported_makes (λ groups. entry_in_utc) subject (λ (pen : UtcPen). pen.groups.now))
     c.args.bus _ _ _ _ (c.run_over.ensures.kept_up read subject (filtered_of (λ groups. entry_in_utc) c.args.wanted.groups.now (which_of c.args.wanted.filter) 0 []) (λ name. c.new-report.ensures) refl)
 
 pub returns-clause-asked : goal.returns-clause-asked

@@ -1,16 +1,16 @@
 -- The run of the group's place, where its first row is the group's.
 use Rattle.std.proofs.Common.{arith, sym, ◌∙◌}
 use Rattle.j39_groups.proofs.RunLemmas.{run_at, run_is, run_is_not}
-use Rattle.j39_groups.proofs.runs.part_for.Goals as goal
+use Rattle.j39_groups.proofs.runs.run_of.Goals as goal
 
-pub slice_bounds-is_first-count : goal.slice_bounds-is_first-count
-slice_bounds-is_first-count c = (run_at c.args.runs.now c.args.rows.now c.place_of.result _ c.bounds-first.ensures c.requires.runs c.place_of.ensures.fits).ordered
+pub slice_bounds-rows-count : goal.slice_bounds-rows-count
+slice_bounds-rows-count c = (run_at c.args.runs.now c.args.rows.now c.place_of.result _ c.bounds-first.ensures c.requires.runs c.place_of.ensures.fits).ordered
 
-pub slice_bounds-is_first-start : goal.slice_bounds-is_first-start
-slice_bounds-is_first-start c = (run_at c.args.runs.now c.args.rows.now c.place_of.result _ c.bounds-first.ensures c.requires.runs c.place_of.ensures.fits).ordered
+pub slice_bounds-rows-start : goal.slice_bounds-rows-start
+slice_bounds-rows-start c = (run_at c.args.runs.now c.args.rows.now c.place_of.result _ c.bounds-first.ensures c.requires.runs c.place_of.ensures.fits).ordered
 
-pub slice_bounds-is_first-end : goal.slice_bounds-is_first-end
-slice_bounds-is_first-end c = (run_at c.args.runs.now c.args.rows.now c.place_of.result _ c.bounds-first.ensures c.requires.runs c.place_of.ensures.fits).inside
+pub slice_bounds-rows-end : goal.slice_bounds-rows-end
+slice_bounds-rows-end c = (run_at c.args.runs.now c.args.rows.now c.place_of.result _ c.bounds-first.ensures c.requires.runs c.place_of.ensures.fits).inside
 
 pub offset_bounds-rows-first : goal.offset_bounds-rows-first
 offset_bounds-rows-first c =

@@ -1,12 +1,9 @@
 -- What stands in the block from the start on are the lines.
-use Rattle.std.proofs.Common.{◌≡◌, ◌-◌, ◌∙◌, arith, subst, sym, true}
-use Rattle.std.specs.List.{list_all}
+use Rattle.std.proofs.Common.{◌∙◌, arith}
 use Rattle.std.proofs.lemmas.Slice.{between_to_end}
 use Rattle.j39_io.proofs.BackwardsLemmas.{before_end}
 use Rattle.j39_io.proofs.PutsLemmas.{puts_as, puts_done, puts_failed}
-use Rattle.j39_groups.specs.Rows.{is_row}
-use Rattle.j39_groups.proofs.RowLemmas.{all_part}
-use Rattle.j39_groups.proofs.group_lines.LineWriter.put_part.Goals as goal
+use Rattle.j39_groups.proofs.group_lines.put_part.Goals as goal
 
 pub returns-in_err-put_all-in-Some-clause-puts : goal.returns-in_err-put_all-in-Some-clause-puts
 returns-in_err-put_all-in-Some-clause-puts g c =
@@ -17,7 +14,3 @@ pub returns-in_ok-put_all-in-Some-clause-puts : goal.returns-in_ok-put_all-in-So
 returns-in_ok-put_all-in-Some-clause-puts g c =
     let whole = between_to_end c.rows_before.new.out c.in-Some.start 960 (omega arith) ∙ before_end _ _ 960 _ _ (omega arith) c.in-Some.ensures.written in
     puts_done _ _ _ _ (puts_as _ _ _ _ whole c.in_ok-put_all-in-Some.ensures.puts)
-
-pub put_each_row-requires-clause-sound : goal.put_each_row-requires-clause-sound
-put_each_row-requires-clause-sound g c = all_part is_row c.rows_before.new.texts.rows.now c.args.part.first (c.args.part.end - c.args.part.first)
-    (subst (λ rows. list_all is_row rows.now ≡ true) (sym c.in-None.ensures.table) c.args.self.now.sound)
