@@ -20,18 +20,6 @@ impl Run {
     /// Of no rows.
     const NONE: Run = Run { first: 1, last: 0 };
 
-    /// The rows' places, from the first up to the end.
-    #[inline(always)]
-    fn bounds(self) -> (usize, usize)
-        ensures { result ≡ bounds_of self }
-    {
-        if self.last < self.first {
-            (0, 0)
-        } else {
-            (usize::from(self.first), usize::from(self.last) + 1)
-        }
-    }
-
     /// With the row at a place behind it.
     fn up_to(self, at: usize) -> Run
         requires few { at < 65536 }
