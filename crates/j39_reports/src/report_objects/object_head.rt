@@ -9,8 +9,6 @@ ghost use Rattle.j39_reports.specs.EntryObject.{moment_members, sender_members};
 
 use crate::second::Second;
 use j39_address::Name;
-use j39_frame::Stamp;
-use j39_groups::magnitude_before;
 use j39_io::backwards::{byte_before, bytes_before, hex_before};
 use j39_io::vectors::hex_of_eight;
 use j39_listen::Heard;
@@ -64,21 +62,7 @@ pub(crate) fn heard_before(
         ++ sender_members heard.now.message.source heard.now.destination (option_map name_raw heard.now.name)) }
 {
     let sender = sender_before(out, end, heard);
-    moment_before(out, sender, second, heard.message.stamp)
-}
-
-/// Writes the stamp, and the same moment in UTC.
-#[inline(always)]
-fn moment_before(out: &mut [u8], end: usize, second: &mut Second, stamp: Stamp) -> usize
-    requires room { 82 ≤ end }
-    requires within { end ≤ length out.old }
-    ensures { WritesBefore out.old out.new end result (moment_members (stamp_micros stamp)) }
-{
-    let last = byte_before(out, end, b'"');
-    let utc = second.utc_before(out, last, stamp);
-    let key = bytes_before(out, utc, *b",\"utc\":\"");
-    let seconds = magnitude_before(out, key, stamp.micros(), 6);
-    bytes_before(out, seconds, *b"{\"stamp\":")
+    second.members_before(out, sender, heard.message.stamp)
 }
 
 /// Writes the address, the destination and the NAME.
