@@ -136,7 +136,14 @@ impl<'t> ReadingVisitor<'t, ()> for Values<'t> {
         match self.guesses.known_place(&self.rows, origin) {
             Some(place) => {
                 let stamp = self.head.stamp;
-                take(&mut self.rows, self.alloc, Some(place), origin, stamp, value)
+                take(
+                    &mut self.rows,
+                    self.alloc,
+                    Some(place),
+                    origin,
+                    stamp,
+                    value,
+                )
             }
             None => take_elsewhere(
                 &mut self.rows,
