@@ -1,5 +1,5 @@
 -- The first bytes, and those behind them.
-use Rattle.j39_reports.proofs.Common.{◌≡◌, ◌++◌, ◌∙◌, ap, ap₂, arith, drop, length, sym, take, take-append-drop, List, ℕ}
+use Rattle.j39_reports.proofs.Common.{◌++◌, ◌∙◌, ap, ap₂, arith, length, sym, take-append-drop, List, ℕ}
 use Rattle.std.proofs.lemmas.List.{length-take-le}
 use Rattle.j39_reports.proofs.report_objects.object_head.halves_of.Goals as goal
 

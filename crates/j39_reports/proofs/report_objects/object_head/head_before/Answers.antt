@@ -1,5 +1,5 @@
 -- One half before the other.
-use Rattle.j39_reports.proofs.Common.{◌≡◌, ◌≤◌, ◌++◌, ◌∙◌, ap, arith, drop, length, subst, sym, WritesBefore, before_then}
+use Rattle.j39_reports.proofs.Common.{◌≤◌, ◌∙◌, ap, arith, drop, length, subst, sym, WritesBefore, before_then}
 use Rattle.std.proofs.lemmas.List.{drop-append-le}
 use Rattle.j39_reports.proofs.report_objects.object_head.head_before.Goals as goal
 

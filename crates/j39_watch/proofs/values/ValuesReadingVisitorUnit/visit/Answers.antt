@@ -1,5 +1,5 @@
 -- The reading goes to its row.
-use Rattle.j39_watch.proofs.Common.{◌≡◌, ◌∷◌, ◌++◌, [], ◌∙◌, ap, refl, List, Origin, pairs_of, stamp_micros, on_ok_from, told, value_of, Entry, SightingRecord, ReadingRecord, entry_of}
+use Rattle.j39_watch.proofs.Common.{◌≡◌, ◌∷◌, ◌++◌, [], ◌∙◌, ap, refl, List, Origin, pairs_of, stamp_micros, on_ok_from, told, Entry, SightingRecord, ReadingRecord, entry_of}
 use Rattle.j39_reports.specs.RowModels.{entry_at}
 use Rattle.j39_reports.specs.MessageHeads.{origin_in}
 use Rattle.j39_reports.proofs.HeadLemmas.{entry_with}

@@ -1,5 +1,5 @@
 -- The reading goes to its row, and what is not available stays.
-use Rattle.j39_reports.proofs.Common.{◌≡◌, ◌∷◌, ◌++◌, [], ◌∙◌, ap, refl, List, Origin, pairs_of, stamp_micros, on_ok_from, told, value_of, Entry, SightingRecord, ReadingRecord, entry_of}
+use Rattle.j39_reports.proofs.Common.{◌≡◌, ◌∷◌, ◌++◌, [], ◌∙◌, ap, refl, List, Origin, pairs_of, stamp_micros, on_ok_from, told, Entry, SightingRecord, ReadingRecord, entry_of}
 use Rattle.j39_reports.specs.RowModels.{entry_at}
 use Rattle.j39_reports.specs.RowsSoFar.{AreRowsOf, HasTaken, Message}
 use Rattle.j39_reports.specs.MessageHeads.{origin_in}
