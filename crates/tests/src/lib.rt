@@ -49,6 +49,8 @@ mod setup;
 #[cfg(test)]
 mod several_sessions;
 #[cfg(test)]
+mod several_transfers;
+#[cfg(test)]
 mod sizes;
 #[cfg(test)]
 mod steps;

@@ -1,0 +1,9 @@
+use Rattle.std.proofs.lemmas.List.{places, with_items_is}
+use Rattle.j39_transfers.proofs.Common.{◌∙◌, ap, hears_in, in_box, List, map, rules, stamp_micros, Transfer, TransfersRecord, transfers_of}
+use Rattle.j39_transfers.proofs.transfers.Transfers.hear.Goals as goal
+
+pub returns : goal.returns
+returns c =
+    ap (λ (xs : List Transfer). (let s : TransfersRecord = record (transfers_of c.args.self.now) { running = xs } in s))
+    (ap (map in_box) (with_items_is c.args.self.now.current c.hear_all.new.current (search (rules, places)))
+    ∙ (c.hear_all.ensures ∙ ap (λ ys. map (hears_in c.args.frame.now (stamp_micros c.args.now)) (map in_box ys)) c.as_mut_slice.ensures.value))

@@ -1,0 +1,6 @@
+use Rattle.j39_transfers.proofs.Common.{◌≡◌, ◌++◌, drop, hears_in, stamp_micros, in_box, map, take}
+use Rattle.j39_transfers.proofs.transfers.hear_all.Given as goal
+
+-- those before this one are changed, and those from here on are as they were
+abbrev pub invariant-loop-running : goal.invariant-loop-running
+invariant-loop-running l = map in_box l.current ≡ map (hears_in l.frame (stamp_micros l.now)) (map in_box (take l.running-index l.initial.current)) ++ map in_box (drop l.running-index l.initial.current)
