@@ -1,5 +1,5 @@
 -- The runs of the places.
-use Rattle.std.proofs.Common.{◌≡◌, ◌<◌, ◌≤◌, ◌+◌, ◌-◌, ◌∙◌, ◌++◌, ℕ, zero, suc, ◌⊎◌, List, [], ◌∷◌, Bool, true, false, length, take, drop, get_or, refl, sym, ap, subst, arith, inl, inr, append-nil, drop-drop, length-append, take-append-drop}
+use Rattle.std.proofs.Common.{◌≡◌, ◌<◌, ◌≤◌, ◌+◌, ◌-◌, ◌∙◌, ◌++◌, ℕ, zero, suc, ◌⊎◌, List, [], ◌∷◌, Bool, true, false, length, take, drop, get_or, refl, sym, ap, subst, arith, inl, inr, append-nil, drop-drop, length-append, take-append-drop, take-take}
 use Rattle.std.specs.Prelude.{◌==◌, filter, nat_lt, not, replicate, slice_set}
 use Rattle.std.specs.List.{list_all, list_any}
 use Rattle.std.proofs.lemmas.Bool.{and_parts, cases_Bool, eq-eqb, eqb-true, eqb-false, false≢true, ltb-false, ltb-true, ne_eqb, not-true}
@@ -88,7 +88,7 @@ not_first (x ∷ xs) pgn place alone sound here first = elim (cases_Bool (is_lis
 ]
 
 -- a run is the rows of the group of its first row
-pub run_is : (rows : List Row) (pgn place : ℕ) (low high : ℕ) → place ≡ place_of pgn → IsRun rows place low high → list_all is_row rows ≡ true → Alone pgn place
+run_is : (rows : List Row) (pgn place : ℕ) (low high : ℕ) → place ≡ place_of pgn → IsRun rows place low high → list_all is_row rows ≡ true → Alone pgn place
     → list_any (λ row. row.pgn == pgn) (take 1 (take (high - low) (drop low rows))) ≡ true
     → take (high - low) (drop low rows) ≡ filter (λ row. row.pgn == pgn) rows
 run_is rows pgn place low high at is sound alone first =
@@ -96,7 +96,7 @@ run_is rows pgn place low high at is sound alone first =
     ∙ all_sought rows pgn low high (subst (λ p. IsRun rows p low high) at is)
 
 -- and has none of another
-pub run_is_not : (rows : List Row) (pgn place : ℕ) (low high : ℕ) → place ≡ place_of pgn → IsRun rows place low high → list_all is_row rows ≡ true → Alone pgn place
+run_is_not : (rows : List Row) (pgn place : ℕ) (low high : ℕ) → place ≡ place_of pgn → IsRun rows place low high → list_all is_row rows ≡ true → Alone pgn place
     → list_any (λ row. row.pgn == pgn) (take 1 (take (high - low) (drop low rows))) ≡ false
     → [] ≡ filter (λ row. row.pgn == pgn) rows
 run_is_not rows pgn place low high at is sound alone first =
@@ -244,8 +244,59 @@ runs_more runs rows i k d o next below is inside begun grown end together sound 
           rw at (run_kept (take i rows) row place _ _ elsewhere (are place e few))
     ])
 
--- the run of a place, by its bounds
-pub run_at : (runs : List Run) (rows : List Row) (place : ℕ) (bounds : ℕ × ℕ) → bounds ≡ bounds_of (get_or runs place (record { first = 0; last = 0 }))
-    → AreRuns runs rows → place < 17408 → IsRun rows place bounds.0 bounds.1
-run_at runs rows place bounds is are fits =
-    subst (λ (b : ℕ × ℕ). IsRun rows place b.0 b.1) (sym is) (are place (record { first = 0; last = 0 }) fits)
+no_other : (rows : List Row) (pgn place : ℕ) → place ≡ place_of pgn → list_all (is_elsewhere place) rows ≡ true → list_any (λ row. row.pgn == pgn) (take 1 rows) ≡ false
+no_other [] pgn place at all = refl
+no_other (row ∷ rows) pgn place at all = elim (cases_Bool (row.pgn == pgn)) [
+  | inl same ↦ absurd (eqb-false _ _ (not-true _ (and_parts _ _ all).0) (ap place_of (eqb-true _ _ same) ∙ sym at))
+  | inr other ↦ rw other refl
+]
+
+all_behind : {X : Type 0} (p : X → Bool) (xs : List X) (n : ℕ) → list_all p xs ≡ true → list_all p (drop n xs) ≡ true
+all_behind p xs n all = (and_parts _ _ (sym (list_all-append p (take n xs) (drop n xs)) ∙ ap (list_all p) (take-append-drop n xs) ∙ all)).1
+
+-- where the row at the first place of a run is of the group, the run has rows
+bounds_at : (rows : List Row) (run : Run) (pgn place : ℕ) → place ≡ place_of pgn → IsRun rows place (bounds_of run).0 (bounds_of run).1
+    → list_any (λ row. row.pgn == pgn) (take 1 (drop run.first rows)) ≡ true → bounds_of run ≡ (run.first, run.last + 1)
+bounds_at rows run pgn place at is first = elim (cases_Bool (nat_lt run.last run.first)) [
+  | inl none ↦
+      let bounds : bounds_of run ≡ (0, 0) = rw none refl in
+      let here = subst (λ (b : ℕ × ℕ). IsRun rows place b.0 b.1) bounds is in
+      let all = all_behind (is_elsewhere place) rows run.first here.none_behind in
+      absurd (false≢true (sym (no_other (drop run.first rows) pgn place at all) ∙ first))
+  | inr some ↦ rw some refl
+]
+
+-- and where it is not, it has none of the group
+not_at : (rows : List Row) (run : Run) (pgn place : ℕ) → IsRun rows place (bounds_of run).0 (bounds_of run).1
+    → list_any (λ row. row.pgn == pgn) (take 1 (drop run.first rows)) ≡ false
+    → list_any (λ row. row.pgn == pgn) (take 1 (take ((bounds_of run).1 - (bounds_of run).0) (drop (bounds_of run).0 rows))) ≡ false
+not_at rows run pgn place is first = elim (cases_Bool (nat_lt run.last run.first)) [
+  | inl none ↦ rw none refl
+  | inr some ↦
+      let low = ltb-false _ _ some in
+      rw some (ap (list_any (λ (row : Row). row.pgn == pgn)) (take-take 1 (run.last + 1 - run.first) (drop run.first rows) (omega (arith, low))) ∙ first)
+]
+
+abbrev the_run : List Run → ℕ → Run
+the_run runs place = get_or runs place (record { first = 0; last = 0 })
+
+pub run_found : (runs : List Run) (rows : List Row) (pgn place first last : ℕ) → first ≡ (the_run runs place).first → last ≡ (the_run runs place).last
+    → place ≡ place_of pgn → place < 17408 → Alone pgn place → AreRuns runs rows → list_all is_row rows ≡ true
+    → list_any (λ row. row.pgn == pgn) (take 1 (drop first rows)) ≡ true
+    → (take (last + 1 - first) (drop first rows) ≡ filter (λ row. row.pgn == pgn) rows) × (first ≤ last + 1) × (last + 1 ≤ length rows)
+run_found runs rows pgn place first last low high at fits alone are sound here =
+    let run = the_run runs place in
+    let is = are place (record { first = 0; last = 0 }) fits in
+    let bounds = bounds_at rows run pgn place at is (rw low at here) in
+    let whole : IsRun rows place first (last + 1) = rw (low, high) (subst (λ (b : ℕ × ℕ). IsRun rows place b.0 b.1) bounds is) in
+    let filled = whole.filled (omega arith) in
+    let lone : list_any (λ row. row.pgn == pgn) (take 1 (take (last + 1 - first) (drop first rows))) ≡ true =
+    ap (list_any (λ (row : Row). row.pgn == pgn)) (take-take 1 (last + 1 - first) (drop first rows) (omega (arith, filled))) ∙ here in
+    (run_is rows pgn place first (last + 1) at whole sound alone lone, whole.ordered, whole.inside)
+
+pub run_not_found : (runs : List Run) (rows : List Row) (pgn place first : ℕ) → first ≡ (the_run runs place).first
+    → place ≡ place_of pgn → place < 17408 → Alone pgn place → AreRuns runs rows → list_all is_row rows ≡ true
+    → list_any (λ row. row.pgn == pgn) (take 1 (drop first rows)) ≡ false → [] ≡ filter (λ row. row.pgn == pgn) rows
+run_not_found runs rows pgn place first low at fits alone are sound other =
+    let is = are place (record { first = 0; last = 0 }) fits in
+    run_is_not rows pgn place _ _ at is sound alone (not_at rows (the_run runs place) pgn place is (rw low at other))

@@ -1,5 +1,5 @@
 //! Where the rows of a group are: each group that can be heard has a place of its own, with the run of its rows.
-ghost use Rattle.std.specs.Prelude.{◌≡◌, ◌==◌, ◌+◌, ◌<◌, ◌≤◌, ℕ, filter, length, take, true};
+ghost use Rattle.std.specs.Prelude.{◌≡◌, ◌==◌, ◌+◌, ◌<◌, ◌≤◌, ℕ, drop, filter, length, take, true};
 ghost use Rattle.std.specs.List.{list_all, list_any};
 ghost use Rattle.j39_groups.specs.Rows.{StandTogether, is_listed_group, is_row};
 ghost use Rattle.j39_groups.specs.Runs.{AreRuns, bounds_of, place_of};
@@ -19,18 +19,6 @@ pub(crate) struct Run {
 impl Run {
     /// Of no rows.
     const NONE: Run = Run { first: 1, last: 0 };
-
-    /// The rows' places, from the first up to the end.
-    #[inline(always)]
-    fn bounds(self) -> (usize, usize)
-        ensures { result ≡ bounds_of self }
-    {
-        if self.last < self.first {
-            (0, 0)
-        } else {
-            (usize::from(self.first), usize::from(self.last) + 1)
-        }
-    }
 
     /// With the row at a place behind it.
     fn up_to(self, at: usize) -> Run
@@ -73,17 +61,22 @@ pub(crate) fn run_of<'r, 't>(runs: &[Run; PLACES], rows: &'r [Row<'t>], pgn: u32
     ensures same { result.now ≡ filter (λ row. row.pgn == pgn) rows.now }
     ensures few { length result.now ≤ length rows.now }
 {
-    let (first, end) = runs[place_of(pgn)].bounds();
-    let rows = &rows[first..end];
-    if is_first(rows, pgn) { rows } else { &[] }
+    // Where a place has no rows, the row at its first is of another group.
+    let run = runs[place_of(pgn)];
+    let first = usize::from(run.first);
+    if is_at(rows, first, pgn) {
+        &rows[first..usize::from(run.last) + 1]
+    } else {
+        &[]
+    }
 }
 
-/// Whether the first of these rows is of a group.
+/// Whether the row at a place is there, and of a group.
 #[inline(always)]
-fn is_first(rows: &[Row<'_>], pgn: u32) -> bool
-    ensures { result ≡ list_any (λ row. row.pgn == pgn) (take 1 rows.now) }
+fn is_at(rows: &[Row<'_>], at: usize, pgn: u32) -> bool
+    ensures { result ≡ list_any (λ row. row.pgn == pgn) (take 1 (drop at rows.now)) }
 {
-    match rows.first() {
+    match rows.get(at) {
         Some(row) => row.pgn == pgn,
         None => false,
     }

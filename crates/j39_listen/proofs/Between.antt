@@ -8,7 +8,7 @@ use Rattle.j39_address.specs.Holder.{IsHolder}
 use Rattle.j39_frame.specs.Frame.{FrameRecord}
 use Rattle.j39_address.proofs.OrderLemmas.{cases_option}
 use Rattle.j39_listen.proofs.Forgets.{InBoth, whole_down, whole_up}
-use Rattle.j39_listen.proofs.Gaps.{ForgetOf, Forgotten, ends-forgets, forget_of, forgets, forgets-ends, forgotten, gap_is_aside, gaps, is_forget, one_rest, part, part_le, placed}
+use Rattle.j39_listen.proofs.Gaps.{ForgetOf, Forgotten, ends-forgets, forget_of, forgets, forgets-ends, forgotten, gap_is_aside, gaps, one_rest, part, part_le, placed}
 use Rattle.j39_listen.proofs.Masks.{Same, one_in_H}
 use Rattle.j39_transport.proofs.Taken.{whole_ends}
 use Rattle.j39_listen.specs.Forgets.{WithForgets}

@@ -1,5 +1,5 @@
 -- A transfer that is refused, and a broadcast that breaks off, meet the premises of the law on losses.
-use Rattle.std.proofs.Common.{[], ◌&&◌, ◌<◌, ◌==◌, ◌||◌, ◌∙◌, ◌∷◌, ◌≡◌, ◌⊎◌, arith, Bool, eq-eqb, eqb-true, inl, inr, refl, subst, sym, true, ℕ}
+use Rattle.std.proofs.Common.{◌&&◌, ◌<◌, ◌==◌, ◌||◌, ◌∙◌, ◌≡◌, arith, Bool, eq-eqb, eqb-true, inl, inr, refl, subst, sym, true, ℕ}
 use Rattle.std.proofs.lemmas.Bool.{and_from, or_cases}
 use Rattle.j39_groups.specs.Readings as readings
 use Rattle.j39_groups.specs.Readings.{is_reported_in, readings_in}

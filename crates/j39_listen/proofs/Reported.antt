@@ -1,5 +1,5 @@
 -- Frames of groups that are heard in one frame, and frames of the transport protocol.
-use Rattle.std.specs.Prelude.{List, Option, None, Some, drop, if◌then◌else◌, length, not, slice_index, ◌&&◌}
+use Rattle.std.specs.Prelude.{List, None, Some, drop, if◌then◌else◌, length, not, slice_index, ◌&&◌}
 use Rattle.std.specs.List.{list_any}
 use Rattle.std.proofs.Common.{◌≡◌, ◌==◌, ℕ, Bool, true, false, refl, sym, ap, ◌∙◌, subst, eqb-true}
 use Rattle.std.proofs.lemmas.Bool.{both_ways, false_from_ne_true}

@@ -57,6 +57,10 @@ abbrev pub name_field : Option ℕ → List ℕ
 name_field None = []
 name_field (Some name) = encode_upper (to_be_bytes w64 name)
 
+-- address and NAME, a space before and after each
+abbrev pub address_text : ℕ → Option ℕ → List ℕ
+address_text address name = codes " " ++ (encode_upper (address ∷ []) ++ (codes " " ++ (name_text name ++ codes " ")))
+
 -- stamp, address and NAME, a space after each
 abbrev pub sender_text : ℕ → ℕ → Option ℕ → List ℕ
 sender_text stamp address name =

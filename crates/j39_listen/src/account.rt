@@ -12,7 +12,7 @@ ghost use Rattle.j39_listen.specs.Asking.{Wanting};
 use crate::counts::Made;
 use j39_frame::{Frame, Id};
 use j39_io::{DeviceFault, Sink};
-use j39_log::Bus;
+use j39_log::{Bus, StampText};
 
 /// Why a line was not finished.
 #[derive(Clone, Copy, Debug, PartialEq, Eq)]
@@ -60,6 +60,15 @@ pub trait Account: Drop {
     {
         let _ = id;
         false
+    }
+
+    /// Notes the text of a stamp that may come next: it changes nothing that was met.
+    #[inline(always)]
+    fn note_stamp(&mut self, text: StampText)
+        ensures { (subject : Subject) (bus : List ℕ) (F : List FrameRecord) (output : Output)
+            → has_met subject bus self.old F output → has_met subject bus self.new F output }
+    {
+        let _ = text;
     }
 
     /// Writes what is left to be written at the end, and answers the numbers of the whole.

@@ -10,6 +10,7 @@ ghost use Rattle.j39_listen.specs.Report.{Form, entries_of};
 
 use crate::Heard;
 use j39_io::{DeviceFault, Sink};
+use j39_log::StampText;
 
 /// A form of the entries of a report, with what it keeps from message to message.
 pub trait EntryForm: Drop {
@@ -25,4 +26,12 @@ pub trait EntryForm: Drop {
         ensures puts { Puts (flat_map (text_by (table_of self.old)) (entries_of (table_of self.old) (hearing_of heard.now)))
             result (turn W.written W.has_failed sink.old sink.new) }
         ensures table { table_of self.new ≡ table_of self.old };
+
+    /// Notes the text of a stamp that may come next: it changes nothing that is written.
+    #[inline(always)]
+    fn note_stamp(&mut self, text: StampText)
+        ensures table { table_of self.new ≡ table_of self.old }
+    {
+        let _ = text;
+    }
 }

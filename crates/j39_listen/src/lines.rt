@@ -18,7 +18,7 @@ use crate::account::{Account, LineFault};
 use crate::counts::{Met, Tally};
 use j39_frame::Frame;
 use j39_io::{DeviceFault, Sink};
-use j39_log::{Bus, Line, RawLine};
+use j39_log::{Bus, Line, RawLine, StampText};
 
 /// The bus of a run, once it is known, the account of its frames, and what was met so far.
 #[derive(Drop)]
@@ -76,9 +76,14 @@ impl<A: Account> Lines<A> {
     }
 
     /// Takes the line of this frame, where the bus is known and the frame is one of it, as `read` does: no line goes by
-    /// memory, and no name is compared.
+    /// memory, and no name is compared. The text is that of the line's stamp.
     #[inline(always)]
-    pub fn read_frame<W: Sink>(&mut self, frame: &Frame, sink: &mut W) -> Result<(), LineFault>
+    pub fn read_frame<W: Sink>(
+        &mut self,
+        frame: &Frame,
+        text: StampText,
+        sink: &mut W,
+    ) -> Result<(), LineFault>
         ensures read { OnOk result ((subject : A.Subject) (name : List ℕ) → self.old.bus ≡ Some name
             → ReadsLine (A.has_met subject) (spelled_frame name frame.now) self.old self.new (W.written sink.old)
             (W.written sink.new)) }
@@ -93,6 +98,7 @@ impl<A: Account> Lines<A> {
         let Some(bus) = &self.bus else {
             return Ok(());
         };
+        self.account.note_stamp(text);
         match self.account.feed(bus, frame, sink) {
             Ok(()) => {}
             Err(fault) => return Err(fault),

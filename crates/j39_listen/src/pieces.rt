@@ -2,6 +2,7 @@
 ghost use Rattle.std.specs.Prelude.{◌≡◌, ◌≢◌, ◌<◌, ◌≤◌, ◌++◌, ℕ, List, [], Option, true, OnOk, OnErr, IfOk, Err, length};
 ghost use Rattle.std.specs.Io.KnownBytes.{Keeps};
 ghost use Rattle.j39_io.specs.Turn.{turn};
+ghost use Rattle.j39_log.specs.FrameLine.{BeginsStamp, HasLine};
 ghost use Rattle.j39_log.specs.Splitter.{HasBegun};
 ghost use Rattle.j39_listen.specs.AccountCalls.{LeavesWriter};
 ghost use Rattle.j39_listen.specs.Asking.{AsksAmong};
@@ -15,7 +16,7 @@ use crate::account::{Account, LineFault};
 use crate::counts::Tally;
 use crate::lines::Lines;
 use j39_io::{DeviceFault, Sink};
-use j39_log::{Bus, LastSecond, Splitter};
+use j39_log::{Bus, FrameLine, LastSecond, Splitter};
 
 /// A log that is read in pieces, and the run over its lines.
 #[derive(Drop)]
@@ -155,12 +156,42 @@ impl<A: Account> Pieces<A> {
             self.lines.pass_over();
             return Ok(n);
         }
-        match line.frame() {
-            Some(frame) => match self.lines.read_frame(&frame, sink) {
-                Ok(()) => Ok(n),
-                Err(fault) => Err(fault),
-            },
-            None => self.take_any(bytes, sink),
+        self.take_frame(&line, n, bytes, sink)
+    }
+
+    /// The same, of a line of so many bytes that begins so and isn't passed over: apart, so that a line that is passed over makes no
+    /// room for a frame.
+    #[inline(always)]
+    fn take_frame<W: Sink>(
+        &mut self,
+        line: &FrameLine<'_>,
+        n: usize,
+        bytes: &[u8],
+        sink: &mut W,
+    ) -> Result<usize, LineFault>
+        requires line { (begun : List ℕ) → HasBegun self.old.splitter begun
+            → HasLine self.old.splitter begun bytes.now self.old.lines.bus line.now n }
+        requires stamped { BeginsStamp line.now }
+        requires within { n ≤ length bytes.now }
+        requires some { 0 < n }
+        ensures count { IfOk result (λ n. n ≤ length bytes.now) }
+        ensures some { IfOk result (λ n. 0 < length bytes.now → 0 < n) }
+        ensures steps { IfOk result (λ n. (subject : A.Subject) (begun : List ℕ) → HasBegun self.old.splitter begun
+            → StepsOver (A.has_met subject) begun bytes.now n self.new.splitter self.old.lines self.new.lines
+            (W.written sink.old) (W.written sink.new)) }
+        ensures writer { LeavesWriter result (turn W.written W.has_failed sink.old sink.new) }
+        ensures stops { result ≡ Err Write → (subject : A.Subject) (begun : List ℕ) → HasBegun self.old.splitter begun
+            → StopsIn (A.has_met subject) (A.makes subject) begun bytes.now self.old.lines (W.written sink.old)
+            (W.written sink.new) }
+        ensures asked { result ≡ Err Memory → (subject : A.Subject) (begun : List ℕ) → HasBegun self.old.splitter begun
+            → AsksIn (A.has_met subject) (A.asks subject) begun bytes.now self.old.lines }
+    {
+        let Some(frame) = line.frame() else {
+            return self.take_any(bytes, sink);
+        };
+        match self.lines.read_frame(&frame, line.stamp_text(), sink) {
+            Ok(()) => Ok(n),
+            Err(fault) => Err(fault),
         }
     }
 

@@ -27,7 +27,7 @@ use crate::{Heard, Listener};
 use j39_frame::{Frame, Id};
 use j39_groups::Groups;
 use j39_io::{DeviceFault, Sink};
-use j39_log::Bus;
+use j39_log::{Bus, StampText};
 use std::alloc::{AllocError, Global};
 
 /// What is heard so far, and the numbers of its report in a form.
@@ -100,6 +100,11 @@ impl<'g, 't, E: EntryForm> Account for Report<'g, 't, E> {
             Ok(()) => Ok(()),
             Err(fault) => Err(fault),
         }
+    }
+
+    #[inline(always)]
+    fn note_stamp(&mut self, text: StampText) {
+        self.form.note_stamp(text);
     }
 
     fn close<W: Sink>(&self, _: &mut W) -> Result<Made, DeviceFault> {

@@ -1,32 +1,30 @@
 //! The lines of a report.
 ghost use Rattle.std.specs.Prelude.{◌≡◌};
-ghost use Rattle.j39_log.specs.Seconds.{seconds_value};
 
 use crate::Heard;
 use crate::entry_form::EntryForm;
-use crate::head::head_before;
+use crate::head::{FROM, Heads};
 use j39_groups::{Groups, HEAD, LINES};
 use j39_io::{DeviceFault, Sink};
-use j39_log::Seconds;
+use j39_log::StampText;
 
 /// What the lines of a message are made with, kept from message to message.
 #[derive(Drop)]
 pub(crate) struct Pen<'g, 't> {
     groups: &'g Groups<'t>,
     block: [u8; LINES],
-    seconds: Seconds,
+    heads: Heads,
 }
 
 impl<'g, 't> Pen<'g, 't> {
-    /// By a table of parameters, with nothing written, at the second 0.
+    /// By a table of parameters, with nothing written.
     pub fn new(groups: &'g Groups<'t>) -> Pen<'g, 't>
-        ensures groups { result.groups ≡ groups.entry }
-        ensures seconds { seconds_value result.seconds ≡ 0 }
+        ensures { result.groups ≡ groups.entry }
     {
         Pen {
             groups,
             block: [0; LINES],
-            seconds: Seconds::new(0),
+            heads: Heads::new(),
         }
     }
 }
@@ -41,11 +39,11 @@ impl<'g, 't> EntryForm for Pen<'g, 't> {
     #[inline(always)]
     fn put_heard<W: Sink>(&mut self, heard: &Heard<'_>, sink: &mut W) -> Result<u64, DeviceFault> {
         let mut head = [0; HEAD];
-        let from = head_before(&mut head, heard, &mut self.seconds);
+        self.heads.put_head(&mut head, heard);
         match self.groups.put_lines(
             &mut self.block,
             &head,
-            from,
+            FROM,
             heard.message.pgn,
             heard.message.payload,
             sink,
@@ -53,5 +51,10 @@ impl<'g, 't> EntryForm for Pen<'g, 't> {
             Ok(lines) => Ok(lines),
             Err(DeviceFault) => Err(DeviceFault),
         }
+    }
+
+    #[inline(always)]
+    fn note_stamp(&mut self, text: StampText) {
+        self.heads.note_stamp(text);
     }
 }

@@ -9,7 +9,7 @@ use Rattle.std.proofs.lemmas.List.{drop-drop, drop_more, get_or-replicate, take_
 use Rattle.j39_frame.specs.Identifier.{id_raw}
 use Rattle.j39_log.specs.Bus.{IsBetween, IsBusName, third_of}
 use Rattle.j39_log.specs.Form.{Fits, rests}
-use Rattle.j39_log.specs.FrameLine.{BeginsLine, HasForm, HasFront, HasThird}
+use Rattle.j39_log.specs.FrameLine.{BeginsLine, BeginsStamp, HasForm, HasFront, HasThird}
 use Rattle.j39_log.specs.Lanes.{bytes_of}
 use Rattle.j39_log.specs.LastSecond.{AreDecimals, HasSecond, IsSecond}
 use Rattle.j39_log.specs.Text.{IsFrameText, IsStampText}
@@ -17,7 +17,7 @@ use Rattle.j39_log.specs.declared.fast.form.Form.{Form}
 use Rattle.j39_log.specs.declared.fast.frame_line.FrameLine.{FrameLine}
 use Rattle.j39_log.proofs.FormLemmas.{all_dropped, digit_lanes, fixed, rests_behind}
 use Rattle.j39_log.proofs.SpacedLemmas.{first_line}
-use Rattle.j39_log.proofs.StampLaneLemmas.{stamp_read}
+use Rattle.j39_log.proofs.StampLaneLemmas.{digits_front, stamp_read}
 
 -- ---- fronts of fronts
 
@@ -163,17 +163,19 @@ line_found bytes cut third bus rest found long front_is behind second decimals d
     (t.text_is ∙ sym (append_assoc t.digits (35 ∷ found.data.now) t.end))) in
     let l = first_line bytes front cut bus last t.end rest (bytes_of found.data.now) (found.second + more) (id_raw found.id) len last_len whole few t.ends stamp named spelled in
     let at_front : (P : List ℕ → Type 0) → P front → P found.front.now = λ P. subst P (sym front_is) in
+    let begins : BeginsStamp found =
+    record { second = at_front (λ f. IsSecond (take 12 f) found.second) within; decimals = at_front (λ f. AllDigits 10 (drop 12 f)) decimals } in
     record {
       line = l.0;
       takes = l.1;
       spells = record {
+        stamped = begins;
         spells = λ frame its. l.2 frame
-            (subst (λ f. IsStampText (f ++ (cut ++ (41 ∷ []))) frame.stamp) front_is
-            (its.stamp_is (at_front (λ f. IsSecond (take 12 f) found.second) within) (at_front (λ f. AllDigits 10 (drop 12 f)) decimals) cut digits short))
+            (subst (λ f. IsStampText (f ++ (cut ++ (41 ∷ []))) frame.stamp) front_is (its.stamp_is begins cut digits short))
             (subst (λ bs. IsFrameText last frame.id bs) (sym its.bytes_are) (subst (λ i. IsFrameText last i (bytes_of found.data.now)) (sym its.id_is) spelled));
         frame = record { stamp = found.second + more; id = id_raw found.id; bytes = bytes_of found.data.now };
         is_its = record {
-          stamp_is = λ s a c d e. at_front (λ f. IsStampText (f ++ (c ++ (41 ∷ []))) (found.second + more)) (stamp_read front c found.second more within are d e);
+          stamp_is = λ b c d e. at_front (λ f. IsStampText (f ++ (c ++ (41 ∷ []))) (found.second + more)) (stamp_read front c found.second more within are d e);
           id_is = refl;
           bytes_are = refl;
         };
@@ -207,11 +209,6 @@ take_split (suc m) n (x ∷ xs) = ap (λ k. take k (x ∷ xs)) (more n m) ∙ ap
 digits_append : (xs ys : List ℕ) → AllDigits 10 xs → AllDigits 10 ys → AllDigits 10 (xs ++ ys)
 digits_append [] ys p q = q
 digits_append (x ∷ xs) ys p q = (p.0, digits_append xs ys p.1 q)
-
-digits_front : (n : ℕ) (xs : List ℕ) → AllDigits 10 xs → AllDigits 10 (take n xs)
-digits_front zero xs p = tt
-digits_front (suc n) [] p = tt
-digits_front (suc n) (x ∷ xs) p = (p.0, digits_front n xs p.1)
 
 digits_behind : (n : ℕ) (xs : List ℕ) → AllDigits 10 xs → AllDigits 10 (drop n xs)
 digits_behind zero xs p = p

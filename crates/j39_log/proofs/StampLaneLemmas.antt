@@ -1,12 +1,16 @@
 -- The digits of a stamp, as vectors read them.
-use Rattle.std.proofs.Common.{◌≡◌, ◌<◌, ◌+◌, ◌-◌, ◌*◌, ◌%◌, ◌^◌, ◌⊎◌, ℕ, List, [], ◌∷◌, ◌++◌, zero, suc, length, map, take, drop, get_or, refl, ap, ap₂, ◌∙◌, append_assoc, arith, subst, sym, take-append-drop, lit<}
+use Rattle.std.proofs.Common.{◌≡◌, ◌<◌, ◌≤◌, ◌/◌, ◌+◌, ◌-◌, ◌*◌, ◌%◌, ◌^◌, ◌⊎◌, ℕ, List, [], ◌∷◌, ◌++◌, zero, suc, length, map, take, drop, get_or, refl, ap, ap₂, ◌∙◌, append_assoc, arith, subst, sym, take-append-drop, length-take, lit<}
 use Rattle.std.specs.List.{AllByRecursion, range_with_len}
 use Rattle.std.specs.Char.{digit_value}
 use Rattle.std.specs.Str.Parse.{AllDigits, digits_value, digits_value_after}
 use Rattle.std.proofs.lemmas.Simd.{pick_l_whole}
 use Rattle.std.proofs.lemmas.Str.Parse.{digit_at}
+use Rattle.std.proofs.lemmas.Int.Digits.{digits_value-lt, digits_value_push}
+use Rattle.std.proofs.lemmas.List.{take_all, take_more}
+use Rattle.j39_io.specs.Printing.{last_digits}
 use Rattle.j39_log.specs.Lanes.{pair_at, stamp_lanes}
 use Rattle.j39_log.specs.LastSecond.{AreDecimals, IsSecond}
+use Rattle.j39_log.specs.StampText.{stamp_text}
 use Rattle.j39_log.specs.Text.{IsStampText}
 
 abbrev pub dec_lane : ℕ → ℕ
@@ -200,3 +204,39 @@ lanes_small front micros long s d =
     let t : ℕ → ℕ = λ i. get_or front i 0 in
     subst (λ u. AllByRecursion (λ x. x < 10) (stamp_lanes u)) whole
     (lanes_small_of t micros (subst (λ u. IsSecond (take 12 u) micros) (sym whole) s) (subst (λ u. AllDigits 10 (drop 12 u)) (sym whole) d))
+
+-- ---- the text of a stamp
+
+pub digits_front : (n : ℕ) (xs : List ℕ) → AllDigits 10 xs → AllDigits 10 (take n xs)
+digits_front zero xs p = tt
+digits_front (suc n) [] p = tt
+digits_front (suc n) (x ∷ xs) p = (p.0, digits_front n xs p.1)
+
+digits_written : (count : ℕ) (ds : List ℕ) → length ds ≡ count → AllDigits 10 ds → last_digits count (digits_value 10 ds) ≡ ds
+unfolding last_digits
+digits_written zero [] e h = refl
+digits_written zero (d ∷ ds) e h = absurd (omega arith)
+digits_written (suc n) ds e h =
+    let front = take n ds in
+    let d = get_or ds n 0 in
+    let whole : front ++ (d ∷ []) ≡ ds = sym (take_more ds n 0 (omega arith)) ∙ take_all (n + 1) ds (omega arith) in
+    let are : AllDigits 10 front = digits_front n ds h in
+    let at = digit_at ds n h (omega arith) in
+    let value : digits_value 10 ds ≡ digits_value 10 front * 10 + (d - 48) =
+    ap (digits_value 10) (sym whole) ∙ digits_value_push 10 front d ∙ ap (λ v. digits_value 10 front * 10 + v) (digit at.0 at.1) in
+    let rest : digits_value 10 ds / 10 ≡ digits_value 10 front = omega (arith, value, at.0, at.1) in
+    let last : 48 + digits_value 10 ds % 10 ≡ d = omega (arith, value, at.0, at.1) in
+    ap₂ (λ xs x. xs ++ (x ∷ [])) (ap (last_digits n) rest ∙ digits_written n front (simp length-take (omega (arith, e))) are) last ∙ whole
+  where
+    digit : {d : ℕ} → 48 ≤ d → d ≤ 57 → digit_value d ≡ d - 48
+    digit low high = grind arith
+
+-- a second and decimals are the text of their stamp
+pub stamp_written : (front : List ℕ) (second more : ℕ) → IsSecond (take 12 front) second → AreDecimals (drop 12 front) more → front ++ (41 ∷ []) ≡ stamp_text (second + more)
+stamp_written front second more s d =
+    let small : digits_value 10 (drop 12 front) < 10 ^ 6 = subst (λ n. digits_value 10 (drop 12 front) < 10 ^ n) d.fit (digits_value-lt 10 (drop 12 front) d.are) in
+    let before : (second + more) / 10 ^ 6 ≡ digits_value 10 s.seconds = let a = s.micros_are in let b = d.micros_are in omega (arith, a, b, small) in
+    let within : (second + more) % 10 ^ 6 ≡ digits_value 10 (drop 12 front) = let a = s.micros_are in let b = d.micros_are in omega (arith, a, b, small) in
+    let seconds : s.seconds ≡ last_digits 10 ((second + more) / 10 ^ 6) = sym (ap (last_digits 10) before ∙ digits_written 10 s.seconds s.seconds_fit s.seconds_are) in
+    let decimals : drop 12 front ≡ last_digits 6 ((second + more) % 10 ^ 6) = sym (ap (last_digits 6) within ∙ digits_written 6 (drop 12 front) d.fit d.are) in
+    ap (λ f. f ++ (41 ∷ [])) (sym (take-append-drop 12 front) ∙ ap₂ (λ a b. a ++ b) (s.text_is ∙ ap (λ x. 40 ∷ (x ++ (46 ∷ []))) seconds) decimals)

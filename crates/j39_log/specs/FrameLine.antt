@@ -16,15 +16,21 @@ use Rattle.j39_log.specs.Text.{IsStampText}
 use Rattle.j39_log.specs.declared.fast.frame_line.FrameLine.{FrameLine}
 use Rattle.j39_log.specs.declared.splitter.Splitter.{Splitter}
 
+-- the line begins with a second and six digits
+pub record BeginsStamp (line : FrameLine) : Type 0 where
+  pub second : IsSecond (take 12 line.front.now) line.second
+  pub decimals : AllDigits 10 (drop 12 line.front.now)
+
 -- the frame has the identifier, what the data digits write, and the stamp that the line begins with, whatever decimals are cut
 pub record IsFrameOf (line : FrameLine) (frame : FrameRecord) : Type 0 where
-  pub stamp_is : IsSecond (take 12 line.front.now) line.second → AllDigits 10 (drop 12 line.front.now) → (cut : List ℕ) → AllDigits 10 cut → (length cut ≡ 0) ⊎ (length cut ≡ 3)
+  pub stamp_is : BeginsStamp line → (cut : List ℕ) → AllDigits 10 cut → (length cut ≡ 0) ⊎ (length cut ≡ 3)
       → IsStampText (line.front.now ++ (cut ++ codes ")")) frame.stamp
   pub id_is : frame.id ≡ id_raw line.id
   pub bytes_are : frame.bytes ≡ bytes_of line.data.now
 
 -- a frame is the line's, and with this name before it each such frame is what the text spells
 pub record SpellsFrame (text bus : List ℕ) (found : FrameLine) : Type 0 where
+  pub stamped : BeginsStamp found
   pub spells : (frame : FrameRecord) → IsFrameOf found frame → IsFrameLine text bus frame
   pub frame : FrameRecord
   pub is_its : IsFrameOf found frame

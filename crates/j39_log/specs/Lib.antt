@@ -11,11 +11,11 @@ pub mod Kind
 pub mod Printed
 -- what is written
 pub mod StampText
+pub mod StampTexts
 pub mod Canonical
--- a splitter, and seconds kept as text
+-- a splitter
 pub mod Newline
 pub mod Splitter
-pub mod Seconds
 -- what private contracts alone see
 pub mod Shape
 pub mod LineParts

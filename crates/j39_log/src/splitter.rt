@@ -30,7 +30,7 @@ enum PieceStep<'a> {
 }
 
 impl Splitter {
-    ghost use Rattle.j39_log.specs.FrameLine.{HasLine};
+    ghost use Rattle.j39_log.specs.FrameLine.{BeginsStamp, HasLine};
     ghost use Rattle.j39_log.specs.Splitter.{AnswersEnd, AnswersPiece, BeginsFrame, HasBegun, IsKept, IsRawLine};
     ghost use Rattle.j39_log.specs.SplitterChanges.{Finishes, StepFits, Steps};
     ghost use Rattle.j39_log.specs.contracts.splitter.Splitter.{the_row};
@@ -59,6 +59,7 @@ impl Splitter {
     ) -> Option<(FrameLine<'a>, usize)>
         ensures line { IfSome result (λ found. (begun : List ℕ) → HasBegun self.now begun
             → HasLine self.now begun piece.now bus.now found.0 found.1) }
+        ensures stamped { IfSome result (λ found. BeginsStamp found.0) }
         ensures count { IfSome result (λ found. found.1 ≤ length piece.now) }
         ensures some { IfSome result (λ found. 0 < found.1) }
     {

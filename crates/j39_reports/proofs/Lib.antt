@@ -13,6 +13,7 @@ pub mod RowLemmas
 pub mod HeldLemmas
 pub mod AbsenceLemmas
 pub mod TakenLemmas
+pub mod HeadLemmas
 pub mod OriginRowLemmas
 pub mod SummaryLineLemmas
 pub mod SummaryAccountLemmas

@@ -20,6 +20,7 @@ pub mod SummaryRun
 pub mod Bounds
 -- summaries: what the code's values show
 pub mod RowModels
+pub mod MessageHeads
 -- summaries: the code's steps, below the rules
 pub mod RowsSoFar
 pub mod SummarySoFar

@@ -4,12 +4,12 @@ use Rattle.std.specs.Int.{int_max, int_min}
 use Rattle.std.specs.List.{list_any}
 use Rattle.j39_memory.specs.ByOrigin.{pairs_of}
 use Rattle.j39_frame.specs.Origin.{is_same}
-use Rattle.j39_frame.specs.Stamp.{stamp_micros}
 use Rattle.j39_groups.specs.Sightings.{SightingRecord, absent, absent_in, told, told_in}
 use Rattle.j39_groups.specs.Value.{ValueRecord}
 use Rattle.j39_listen.specs.Counting.{capped}
 use Rattle.j39_listen.specs.Heard.{Hearing}
 use Rattle.j39_listen.specs.Report.{Entry, entry_of}
+use Rattle.j39_reports.specs.MessageHeads.{IsHeadOf}
 use Rattle.j39_reports.specs.RowModels.{entry_at, row_shown}
 use Rattle.j39_reports.specs.SummaryRun.{WantsRow}
 use Rattle.j39_reports.specs.Summary.{absence_of, how_often, Number, Range, Row, are_comparable, is_word, number_of, summary_of}
@@ -78,11 +78,7 @@ pub record HasTaken (message : Message) (rows : Rows) (sightings : List Sighting
   pub are_rows : AreRowsOf (pairs_of rows.rows) (message.before ++ map (entry_of message.hearing) (told_in sightings))
   pub are_counted : AreCounted (pairs_of rows.absences.counts)
       (message.absent ++ map (absence_of message.hearing) (absent_in sightings))
-  pub stamp_is : stamp_micros rows.stamp ≡ message.hearing.stamp
-  pub address_is : rows.address ≡ message.hearing.message.source
-  pub destination_is : rows.destination ≡ message.hearing.destination
-  pub name_is : rows.name ≡ message.hearing.name
-  pub pgn_is : rows.pgn ≡ message.hearing.message.pgn
+  pub head_is : IsHeadOf rows.head message.hearing
 
 -- where they want memory
 abbrev pub WantsAt : Message → List SightingRecord → SightingRecord → Type 0

@@ -12,4 +12,4 @@ pub mod summaries;
 pub use lines_in_utc::report_in_utc;
 pub use report_objects::report_json;
 pub use report_records::{report_csv, scaled_before};
-pub use summaries::{Guesses, Sample, StoredValue, SummaryWanted, again, summary};
+pub use summaries::{Guesses, MessageHead, Sample, StoredValue, SummaryWanted, summary};

@@ -5,11 +5,13 @@ mod account;
 mod guesses;
 pub mod laws;
 mod lines;
+mod message_head;
 mod rows;
 mod statistics;
 mod stored_value;
 
 pub use account::{SummaryWanted, summary};
-pub use guesses::{Guesses, again};
+pub use guesses::Guesses;
+pub use message_head::MessageHead;
 pub use statistics::Sample;
 pub use stored_value::StoredValue;

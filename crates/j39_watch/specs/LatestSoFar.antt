@@ -1,7 +1,6 @@
 -- The steps of a watch's values, entry by entry.
 use Rattle.std.specs.Prelude.{◌≡◌, ◌==◌, ◌+◌, ◌++◌, ◌/◌, ℕ, List, if◌then◌else◌, map, reverse}
 use Rattle.std.specs.List.{prefix_len}
-use Rattle.j39_frame.specs.Stamp.{stamp_micros}
 use Rattle.j39_frame.specs.declared.origin.Origin.{Origin}
 use Rattle.j39_groups.specs.Sightings.{SightingRecord, absent, told, told_in}
 use Rattle.j39_groups.specs.Value.{ValueRecord}
@@ -9,6 +8,7 @@ use Rattle.j39_listen.specs.Counting.{capped}
 use Rattle.j39_listen.specs.Heard.{Hearing}
 use Rattle.j39_listen.specs.Report.{Entry, entry_of}
 use Rattle.j39_memory.specs.ByOrigin.{pairs_of}
+use Rattle.j39_reports.specs.MessageHeads.{IsHeadOf}
 use Rattle.j39_reports.specs.RowModels.{entry_at, entry_seen}
 use Rattle.j39_reports.specs.Summary.{firsts, last_of, origin_of, values_like}
 use Rattle.j39_reports.specs.SummaryRun.{WantsRow}
@@ -84,11 +84,7 @@ pub record Behind : Type 0 where
 -- the rows are those of the entries before the message and of what it told so far
 pub record HasFollowedMessage (message : Behind) (values : Values) (sightings : List SightingRecord) : Type 0 where
   pub are_latest : AreLatest (pairs_of values.rows) (message.before ++ map (entry_of message.hearing) (told_in sightings))
-  pub stamp_is : stamp_micros values.stamp ≡ message.hearing.stamp
-  pub address_is : values.address ≡ message.hearing.message.source
-  pub destination_is : values.destination ≡ message.hearing.destination
-  pub name_is : values.name ≡ message.hearing.name
-  pub pgn_is : values.pgn ≡ message.hearing.message.pgn
+  pub head_is : IsHeadOf values.head message.hearing
 
 -- where they want memory: at the first value of an origin, and at a text
 abbrev pub WantsRoomAt : Behind → List SightingRecord → SightingRecord → Type 0

@@ -7,16 +7,16 @@ ghost use Rattle.j39_listen.specs.HeardModel.{hearing_of};
 ghost use Rattle.j39_listen.specs.Report.{Entry};
 ghost use Rattle.j39_memory.specs.ByOrigin.{pairs_of};
 ghost use Rattle.j39_watch.specs.LatestSoFar.{AreLatest, HasFollowedMessage};
+ghost use Rattle.j39_reports.specs.MessageHeads.{origin_in};
 ghost use Rattle.j39_reports.specs.RowModels.{entry_at};
 ghost use Rattle.j39_reports.specs.SummaryRun.{WantsRow};
 
 use crate::latest::{Latest, NextValue};
-use j39_address::Name;
 use j39_frame::{Origin, Stamp};
 use j39_groups::{ReadingVisitor, Value};
 use j39_listen::Heard;
 use j39_memory::ByOrigin;
-use j39_reports::{Guesses, again};
+use j39_reports::{Guesses, MessageHead};
 use std::alloc::{AllocError, Global};
 
 /// The last values by their origins, in the order of their first values; where the last ones stand; and what the readings of
@@ -26,11 +26,7 @@ pub(crate) struct Values<'t> {
     pub rows: ByOrigin<Latest<'t>>,
     guesses: Guesses,
     pub alloc: Global,
-    stamp: Stamp,
-    address: u8,
-    destination: Option<u8>,
-    name: Option<u64>,
-    pgn: u32,
+    head: MessageHead,
 }
 
 impl<'t> Values<'t> {
@@ -42,11 +38,7 @@ impl<'t> Values<'t> {
             rows: ByOrigin::new(alloc),
             guesses: Guesses::new(),
             alloc,
-            stamp: Stamp::new(0).unwrap(),
-            address: 0,
-            destination: None,
-            name: None,
-            pgn: 0,
+            head: MessageHead::new(),
         }
     }
 
@@ -56,31 +48,7 @@ impl<'t> Values<'t> {
         ensures { (before : List Entry) → AreLatest (pairs_of self.old.rows) before
             → HasFollowedMessage (record { before = before; hearing = hearing_of heard.now }) self.new [] }
     {
-        self.stamp = heard.message.stamp;
-        self.address = heard.message.source;
-        self.destination = heard.destination;
-        self.name = heard.name.map(Name::raw);
-        self.pgn = heard.message.pgn.raw();
-    }
-
-    /// The origin of a parameter of the message.
-    #[inline(always)]
-    fn origin_of(&self, spn: u32) -> Origin
-        ensures { result ≡ record {
-          address = self.now.address;
-          destination = self.now.destination;
-          name = self.now.name;
-          pgn = self.now.pgn;
-          spn = spn;
-        } }
-    {
-        Origin {
-            address: self.address,
-            destination: self.destination,
-            name: self.name,
-            pgn: self.pgn,
-            spn,
-        }
+        self.head = MessageHead::of(heard);
     }
 }
 
@@ -109,7 +77,7 @@ fn take<'t>(
                 value,
             },
         ),
-        None => add(rows, alloc, again(origin), stamp, value),
+        None => add(rows, alloc, origin, stamp, value),
     }
 }
 
@@ -130,6 +98,27 @@ fn add<'t>(
     rows.add(origin, latest)
 }
 
+/// Takes a value to its row wherever that stands, off the quick path.
+#[inline(never)]
+fn take_elsewhere<'t>(
+    rows: &mut ByOrigin<Latest<'t>>,
+    guesses: &mut Guesses,
+    alloc: Global,
+    head: &MessageHead,
+    spn: u32,
+    value: Value<'t, '_>,
+) -> Result<(), AllocError>
+    ensures taken { OnOk result ((before : List Entry) → AreLatest (pairs_of rows.old) before
+        → AreLatest (pairs_of rows.new)
+        (before ++ entry_at (origin_in head.now spn) (stamp_micros head.now.stamp) (value_of value.entry) ∷ [])) }
+    ensures wanted { OnErr result ((before : List Entry) → AreLatest (pairs_of rows.old) before
+        → WantsRow before (entry_at (origin_in head.now spn) (stamp_micros head.now.stamp) (value_of value.entry))) }
+{
+    let origin = head.origin(spn);
+    let place = guesses.place_of(rows, origin);
+    take(rows, alloc, place, origin, head.stamp, value)
+}
+
 impl<'t> ReadingVisitor<'t, ()> for Values<'t> {
     ghost use Rattle.j39_watch.specs.LatestSoFar.{Behind, HasFollowedMessage, WantsRoomAt};
 
@@ -143,9 +132,28 @@ impl<'t> ReadingVisitor<'t, ()> for Values<'t> {
 
     #[inline(always)]
     fn visit(&mut self, spn: u32, value: Value<'t, '_>, _: &mut ()) -> Result<(), AllocError> {
-        let origin = self.origin_of(spn);
-        let place = self.guesses.place_of(&self.rows, origin);
-        take(&mut self.rows, self.alloc, place, origin, self.stamp, value)
+        let origin = self.head.origin(spn);
+        match self.guesses.known_place(&self.rows, origin) {
+            Some(place) => {
+                let stamp = self.head.stamp;
+                take(
+                    &mut self.rows,
+                    self.alloc,
+                    Some(place),
+                    origin,
+                    stamp,
+                    value,
+                )
+            }
+            None => take_elsewhere(
+                &mut self.rows,
+                &mut self.guesses,
+                self.alloc,
+                &self.head,
+                spn,
+                value,
+            ),
+        }
     }
 
     /// Nothing is shown of what is not available.

@@ -18,7 +18,7 @@ ghost use Rattle.j39_fault_reports.specs.News.{is_fault_group};
 use crate::current_faults::last_actives::LastActives;
 use crate::current_faults::lines::put_places;
 use crate::current_faults::silence::last_with;
-use crate::fault_news::account::{is_byte, is_of_fault_group};
+use crate::fault_news::account::{is_byte, is_of_fault_group, is_passed_over};
 use crate::fault_news::announced::Announced;
 use crate::fault_news::form::Writing;
 use j39_faults::{Conversion, Kind, fault_group, lamps_of};
@@ -89,6 +89,7 @@ impl<'g, 't, 'c> Account for FaultsNow<'g, 't, 'c> {
 
     ghost asks = { λ subject. AsksForFaultsNow subject.1.which };
 
+    #[inline(always)]
     fn feed<W: Sink>(&mut self, _: &Bus, frame: &Frame, _: &mut W) -> Result<(), LineFault> {
         self.chooser.note(frame);
         self.last = last_with(&self.chooser, self.last, frame);
@@ -127,8 +128,43 @@ impl<'g, 't, 'c> Account for FaultsNow<'g, 't, 'c> {
 }
 
 /// Takes what is heard at a frame of the run's bus, if it came between the moments, and answers how many messages of active codes
-/// that is.
+/// that is. Most frames are of groups that nobody hears: those are done with here.
+#[inline(always)]
 fn take_frame(
+    alloc: Global,
+    listener: &mut Listener,
+    conversions: &[Conversion],
+    chooser: &Chooser<'_>,
+    places: &mut LastActives,
+    announced: &mut Announced,
+    frame: &Frame,
+) -> Result<u64, AllocError>
+    ensures taken { IfOk result (λ messages. (which : FilterRecord) (F : List FrameRecord) (ms : List Hearing) → Hears listener.old F
+        → Chooses which chooser.now (F ++ frame.now ∷ []) → AreKept conversions.now places.old ms
+        → TakesFrame which conversions.now F frame.now listener.new places.new announced.old announced.new ms messages) }
+    ensures asked { OnErr result ((which : FilterRecord) (F : List FrameRecord) (heard : List Hearing) → Hears listener.old F
+        → Chooses which chooser.now (F ++ frame.now ∷ []) → AreHeardWith is_fault_group F heard
+        → AreKept conversions.now places.old (in_time which (first_stamp (F ++ frame.now ∷ [])) (active_among heard))
+        → AsksForFaultsNow which F frame.now) }
+{
+    if is_passed_over(frame.id) {
+        announced.add_frame(frame);
+        return Ok(0);
+    }
+    take_spoken(
+        alloc,
+        listener,
+        conversions,
+        chooser,
+        places,
+        announced,
+        frame,
+    )
+}
+
+/// The same of a frame at which a message may be heard.
+#[inline(never)]
+fn take_spoken(
     alloc: Global,
     listener: &mut Listener,
     conversions: &[Conversion],

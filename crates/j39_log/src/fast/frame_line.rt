@@ -4,8 +4,10 @@ ghost use Rattle.std.specs.Prelude.{◌<◌, ◌^◌};
 use crate::fast::form::values_of;
 use crate::fast::lanes::pairs;
 use crate::fast::plain::decimals;
+use crate::stamp_text::StampText;
 use arrayvec::ArrayVec;
 use j39_frame::{Frame, Id, Stamp};
+use j39_io::backwards::bytes_before;
 
 /// The line of a frame of a bus, whose form is right. Its stamp and its data are made of it where they are asked for.
 #[derive(Clone, Copy)]
@@ -22,7 +24,7 @@ pub struct FrameLine<'a> {
 
 impl<'a> FrameLine<'a> {
     ghost use Rattle.std.specs.Prelude.{IfSome};
-    ghost use Rattle.j39_log.specs.FrameLine.{IsFrameOf};
+    ghost use Rattle.j39_log.specs.FrameLine.{BeginsStamp, IsFrameOf};
 
     /// The line's frame.
     #[inline(always)]
@@ -32,5 +34,16 @@ impl<'a> FrameLine<'a> {
         let stamp = Stamp::new(self.second + decimals(self.front))?;
         let bytes = ArrayVec::from_array_in((), pairs(values_of(self.data), 16));
         Some(Frame::from_parts(stamp, self.id, bytes))
+    }
+
+    /// Its stamp with its text, which stands in the line.
+    #[inline(always)]
+    pub fn stamp_text(&self) -> StampText
+        requires { BeginsStamp self.now }
+    {
+        let mut text = [b')'; 19];
+        let _ = bytes_before(&mut text, 18, *self.front);
+        let micros = self.second + decimals(self.front);
+        StampText { micros, text }
     }
 }

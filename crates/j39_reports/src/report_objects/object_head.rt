@@ -9,14 +9,15 @@ ghost use Rattle.j39_reports.specs.EntryObject.{moment_members, sender_members};
 
 use crate::second::Second;
 use j39_address::Name;
-use j39_frame::Stamp;
-use j39_groups::magnitude_before;
-use j39_io::backwards::{byte_before, bytes_before, hex_before};
+use j39_io::backwards::{byte_before, bytes_before, hex_before, tail_before};
 use j39_io::vectors::hex_of_eight;
 use j39_listen::Heard;
 
 /// The bytes of a block that the objects of every message can begin with.
 pub(crate) const HEAD: usize = 192;
+
+/// Half of them.
+const HALF: usize = 96;
 
 /// What the objects of a message begin with: the bytes of a block from a place on.
 #[derive(Debug, Drop)]
@@ -50,6 +51,32 @@ impl ObjectHead {
     }
 }
 
+/// Writes the bytes of a head, in two halves: a block of more than 128 bytes would be copied by a call.
+#[inline(always)]
+pub(crate) fn head_before(out: &mut [u8], end: usize, head: &ObjectHead) -> usize
+    requires room { 192 ≤ end }
+    requires within { end ≤ length out.old }
+    ensures { WritesBefore out.old out.new end result (drop head.now.from head.now.head) }
+{
+    if head.from > HALF {
+        return tail_before(out, end, &head.head, head.from);
+    }
+    let (front, back) = halves_of(&head.head);
+    let middle = bytes_before(out, end, *back);
+    tail_before(out, middle, front, head.from)
+}
+
+/// Both halves of a block.
+#[inline(always)]
+fn halves_of(block: &[u8; HEAD]) -> (&[u8; HALF], &[u8; HALF])
+    ensures whole { block.now ≡ result.0.now ++ result.1.now }
+    ensures front { length result.0.now ≡ 96 }
+{
+    let (front, later) = block.split_first_chunk::<HALF>().unwrap();
+    let back = later.as_array::<HALF>().unwrap();
+    (front, back)
+}
+
 /// Writes the moment, the address, the destination and the NAME.
 #[inline(always)]
 pub(crate) fn heard_before(
@@ -64,21 +91,7 @@ pub(crate) fn heard_before(
         ++ sender_members heard.now.message.source heard.now.destination (option_map name_raw heard.now.name)) }
 {
     let sender = sender_before(out, end, heard);
-    moment_before(out, sender, second, heard.message.stamp)
-}
-
-/// Writes the stamp, and the same moment in UTC.
-#[inline(always)]
-fn moment_before(out: &mut [u8], end: usize, second: &mut Second, stamp: Stamp) -> usize
-    requires room { 82 ≤ end }
-    requires within { end ≤ length out.old }
-    ensures { WritesBefore out.old out.new end result (moment_members (stamp_micros stamp)) }
-{
-    let last = byte_before(out, end, b'"');
-    let utc = second.utc_before(out, last, stamp);
-    let key = bytes_before(out, utc, *b",\"utc\":\"");
-    let seconds = magnitude_before(out, key, stamp.micros(), 6);
-    bytes_before(out, seconds, *b"{\"stamp\":")
+    second.members_before(out, sender, heard.message.stamp)
 }
 
 /// Writes the address, the destination and the NAME.

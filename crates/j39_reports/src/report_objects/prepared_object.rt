@@ -7,7 +7,7 @@ ghost use Rattle.j39_groups.specs.Names.{name_in, state_in};
 ghost use Rattle.j39_reports.specs.EntryObject.{behind_members, parameter_members, value_members};
 ghost use Rattle.j39_reports.specs.MessageObjects.{opened};
 
-use crate::report_objects::object_head::ObjectHead;
+use crate::report_objects::object_head::{ObjectHead, head_before};
 use crate::report_objects::object_sides::ObjectSides;
 use crate::report_objects::quick_object::{OBJECT, json_before, unit_in};
 use crate::sides::{KnownSides, Sides};
@@ -38,7 +38,7 @@ pub(crate) fn prepared_before(
     let end = behind_before(out, sides, unit)?;
     let json = json_before(out, end, value)?;
     let name = tail_before(out, json, &sides.before, sides.before_from);
-    Some(tail_before(out, name, &opening.head, opening.from))
+    Some(head_before(out, name, opening))
 }
 
 /// Writes what stands behind a value with this unit, where these are its sides or it has none.

@@ -7,10 +7,10 @@ ghost use Rattle.j39_reports.specs.EntryObject.{parameter_members, unit_in, valu
 ghost use Rattle.j39_reports.specs.MessageObjects.{opened};
 
 use crate::json::string_or_null_before;
-use crate::report_objects::object_head::ObjectHead;
+use crate::report_objects::object_head::{ObjectHead, head_before};
 use crate::report_records::{digits_before, scaled_before};
 use j39_groups::Value;
-use j39_io::backwards::{bytes_before, tail_before};
+use j39_io::backwards::bytes_before;
 
 /// The bytes of a block that an object fits in: what it begins with, a number, a value, three texts of 63 bytes in their marks,
 /// the keys, and the end of the line.
@@ -37,7 +37,7 @@ pub(crate) fn object_before(
     }
     let behind = value_before(out, OBJECT, value, state)?;
     let number = parameter_before(out, behind, spn, parameter)?;
-    Some(tail_before(out, number, &opening.head, opening.from))
+    Some(head_before(out, number, opening))
 }
 
 /// Writes the number of the parameter, and what it is called.

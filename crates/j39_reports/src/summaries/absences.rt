@@ -6,7 +6,7 @@ ghost use Rattle.j39_frame.specs.Origin.{is_same};
 ghost use Rattle.j39_frame.specs.declared.origin.Origin.{Origin};
 ghost use Rattle.j39_reports.specs.RowsSoFar.{AreCounted, counted};
 
-use crate::summaries::guesses::{Guesses, again};
+use crate::summaries::guesses::Guesses;
 use j39_frame::Origin;
 use j39_memory::{ByOrigin, OriginChange};
 use std::alloc::{AllocError, Global};
@@ -40,7 +40,7 @@ impl Absences {
         let place = self.guesses.place_of(&self.counts, origin);
         match place {
             Some(at) => self.counts.change(at, AddedAbsence {}),
-            None => self.counts.add(again(origin), 1),
+            None => self.counts.add(origin, 1),
         }
     }
 

@@ -1,5 +1,5 @@
 //! Where the values of the last origins stand.
-ghost use Rattle.std.specs.Prelude.{◌≡◌, ◌<◌, replicate};
+ghost use Rattle.std.specs.Prelude.{◌≡◌, ◌<◌, IfSome, Some, replicate};
 ghost use Rattle.j39_memory.specs.ByOrigin.{pairs_of};
 ghost use Rattle.j39_frame.specs.Origin.{place_in};
 
@@ -25,18 +25,29 @@ impl Guesses {
         }
     }
 
-    /// Where an origin stands, if it has a value.
+    /// Where an origin stands, if that is remembered: most values are of an origin that is.
     #[inline(always)]
+    pub fn known_place<T: Drop>(&self, values: &ByOrigin<T>, origin: Origin) -> Option<usize>
+        ensures { IfSome result (λ place. place_in (pairs_of values.now) origin ≡ Some place) }
+    {
+        let guess = self.places[guess_at(origin)];
+        if values.stands_at(guess, origin) {
+            Some(guess)
+        } else {
+            None
+        }
+    }
+
+    /// Where an origin stands, if it has a value.
+    #[inline(never)]
     pub fn place_of<T: Drop>(&mut self, values: &ByOrigin<T>, origin: Origin) -> Option<usize>
         ensures { result ≡ place_in (pairs_of values.now) origin }
     {
-        let at = guess_at(origin);
-        let guess = self.places[at];
-        if values.stands_at(guess, origin) {
-            return Some(guess);
+        if let Some(place) = self.known_place(values, origin) {
+            return Some(place);
         }
-        let place = sought(values, origin);
-        self.places[at] = place.unwrap_or(values.len());
+        let place = values.place_of(origin);
+        self.places[guess_at(origin)] = place.unwrap_or(values.len());
         place
     }
 }
@@ -47,35 +58,4 @@ fn guess_at(origin: Origin) -> usize
     ensures { result < PLACES }
 {
     (usize::from(origin.address) * 37 + origin.spn as usize) % PLACES
-}
-
-/// The same origin, in a place of its own: what a slow call is handed lies in memory, and the origin that is compared on
-/// the quick path need not.
-#[inline(always)]
-pub fn again(origin: Origin) -> Origin
-    ensures { result ≡ origin }
-{
-    Origin {
-        address: origin.address,
-        destination: origin.destination,
-        name: origin.name,
-        pgn: origin.pgn,
-        spn: origin.spn,
-    }
-}
-
-/// Where an origin stands, if it has a value.
-#[inline(never)]
-fn looked_up<T: Drop>(values: &ByOrigin<T>, origin: Origin) -> Option<usize>
-    ensures { result ≡ place_in (pairs_of values.now) origin }
-{
-    values.place_of(origin)
-}
-
-/// The same, off the quick path: what the call is handed is put in place only here.
-#[inline(always)]
-fn sought<T: Drop>(values: &ByOrigin<T>, origin: Origin) -> Option<usize>
-    ensures { result ≡ place_in (pairs_of values.now) origin }
-{
-    looked_up(values, again(origin))
 }

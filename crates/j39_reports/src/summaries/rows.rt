@@ -8,14 +8,15 @@ ghost use Rattle.j39_listen.specs.Report.{Entry};
 ghost use Rattle.j39_listen.specs.HeardModel.{hearing_of};
 ghost use Rattle.j39_frame.specs.declared.origin.Origin.{Origin};
 ghost use Rattle.j39_reports.specs.RowsSoFar.{AreCounted, AreRowsOf, HasTaken};
+ghost use Rattle.j39_reports.specs.MessageHeads.{origin_in};
 ghost use Rattle.j39_reports.specs.RowModels.{entry_at};
 ghost use Rattle.j39_reports.specs.SummaryRun.{WantsRow};
 
 use crate::summaries::absences::Absences;
-use crate::summaries::guesses::{Guesses, again};
+use crate::summaries::guesses::Guesses;
+use crate::summaries::message_head::MessageHead;
 use crate::summaries::statistics::{AddedValue, Statistics};
-use j39_address::Name;
-use j39_frame::{Origin, Pgn, Stamp};
+use j39_frame::{Origin, Stamp};
 use j39_groups::{ReadingVisitor, Value};
 use j39_listen::Heard;
 use j39_memory::ByOrigin;
@@ -29,11 +30,7 @@ pub(crate) struct Rows<'t> {
     guesses: Guesses,
     pub absences: Absences,
     alloc: Global,
-    stamp: Stamp,
-    address: u8,
-    destination: Option<u8>,
-    name: Option<u64>,
-    pgn: u32,
+    head: MessageHead,
 }
 
 impl<'t> Rows<'t> {
@@ -47,11 +44,7 @@ impl<'t> Rows<'t> {
             guesses: Guesses::new(),
             absences: Absences::new(alloc),
             alloc,
-            stamp: Stamp::new(0).unwrap(),
-            address: 0,
-            destination: None,
-            name: None,
-            pgn: 0,
+            head: MessageHead::new(),
         }
     }
 
@@ -62,31 +55,7 @@ impl<'t> Rows<'t> {
             → AreCounted (pairs_of self.old.absences.counts) absent
             → HasTaken (record { before = before; absent = absent; hearing = hearing_of heard.now }) self.new [] }
     {
-        self.stamp = heard.message.stamp;
-        self.address = heard.message.source;
-        self.destination = heard.destination;
-        self.name = heard.name.map(Name::raw);
-        self.pgn = heard.message.pgn.raw();
-    }
-
-    /// The origin of a parameter of the message.
-    #[inline(always)]
-    fn origin_of(&self, spn: u32) -> Origin
-        ensures { result ≡ record {
-          address = self.now.address;
-          destination = self.now.destination;
-          name = self.now.name;
-          pgn = self.now.pgn;
-          spn = spn;
-        } }
-    {
-        Origin {
-            address: self.address,
-            destination: self.destination,
-            name: self.name,
-            pgn: self.pgn,
-            spn,
-        }
+        self.head = MessageHead::of(heard);
     }
 }
 
@@ -116,25 +85,8 @@ fn take<'t>(
                 value,
             },
         ),
-        None => begin_row(rows, alloc, origin, stamp, value),
+        None => add(rows, alloc, origin, stamp, value),
     }
-}
-
-/// Begins a row, off the quick path: what the call is handed is put in place only here.
-#[inline(always)]
-fn begin_row<'t>(
-    rows: &mut ByOrigin<Statistics<'t>>,
-    alloc: Global,
-    origin: Origin,
-    stamp: Stamp,
-    value: Value<'t, '_>,
-) -> Result<(), AllocError>
-    requires { place_in (pairs_of rows.old) origin ≡ None }
-    ensures { OnOk result ((before : List Entry) → AreRowsOf (pairs_of rows.old) before
-        → AreRowsOf (pairs_of rows.new)
-        (before ++ entry_at origin (stamp_micros stamp) (value_of value.entry) ∷ [])) }
-{
-    add(rows, alloc, again(origin), stamp, value)
 }
 
 /// Begins a row.
@@ -155,6 +107,27 @@ fn add<'t>(
     rows.add(origin, statistics)
 }
 
+/// Takes a value to its row wherever that stands, off the quick path.
+#[inline(never)]
+fn take_elsewhere<'t>(
+    rows: &mut ByOrigin<Statistics<'t>>,
+    guesses: &mut Guesses,
+    alloc: Global,
+    head: &MessageHead,
+    spn: u32,
+    value: Value<'t, '_>,
+) -> Result<(), AllocError>
+    ensures taken { OnOk result ((before : List Entry) → AreRowsOf (pairs_of rows.old) before
+        → AreRowsOf (pairs_of rows.new)
+        (before ++ entry_at (origin_in head.now spn) (stamp_micros head.now.stamp) (value_of value.entry) ∷ [])) }
+    ensures wanted { OnErr result ((before : List Entry) → AreRowsOf (pairs_of rows.old) before
+        → WantsRow before (entry_at (origin_in head.now spn) (stamp_micros head.now.stamp) (value_of value.entry))) }
+{
+    let origin = head.origin(spn);
+    let place = guesses.place_of(rows, origin);
+    take(rows, alloc, place, origin, head.stamp, value)
+}
+
 impl<'t> ReadingVisitor<'t, ()> for Rows<'t> {
     ghost use Rattle.j39_reports.specs.RowsSoFar.{HasTaken, Message, WantsAt};
 
@@ -168,13 +141,32 @@ impl<'t> ReadingVisitor<'t, ()> for Rows<'t> {
 
     #[inline(always)]
     fn visit(&mut self, spn: u32, value: Value<'t, '_>, _: &mut ()) -> Result<(), AllocError> {
-        let origin = self.origin_of(spn);
-        let place = self.guesses.place_of(&self.rows, origin);
-        take(&mut self.rows, self.alloc, place, origin, self.stamp, value)
+        let origin = self.head.origin(spn);
+        match self.guesses.known_place(&self.rows, origin) {
+            Some(place) => {
+                let stamp = self.head.stamp;
+                take(
+                    &mut self.rows,
+                    self.alloc,
+                    Some(place),
+                    origin,
+                    stamp,
+                    value,
+                )
+            }
+            None => take_elsewhere(
+                &mut self.rows,
+                &mut self.guesses,
+                self.alloc,
+                &self.head,
+                spn,
+                value,
+            ),
+        }
     }
 
     fn visit_absent(&mut self, spn: u32, _: &mut ()) -> Result<(), AllocError> {
-        let origin = self.origin_of(spn);
+        let origin = self.head.origin(spn);
         self.absences.count(origin)
     }
 }

@@ -29,6 +29,7 @@ impl Arrivals {
     }
 
     /// One frame more.
+    #[inline(always)]
     pub fn add(&mut self, frame: &Frame)
         ensures { (frames : List FrameRecord) → HaveArrived self.old frames → HaveArrived self.new (frames ++ frame.now ∷ []) }
     {

@@ -14,14 +14,13 @@ impl Silence {
     ghost use Rattle.j39_survey.specs.GroupCounts.{longer};
     ghost use Rattle.j39_survey.specs.SurveyModels.{silence_record};
 
-    /// The longer of two, or the first.
-    fn longer(self, other: Silence) -> Silence
-        ensures { silence_record result ≡ longer (silence_record self) (silence_record other) }
+    /// Becomes another one that is longer.
+    #[inline(always)]
+    fn lengthen(&mut self, other: Silence)
+        ensures { silence_record self.new ≡ longer (silence_record self.old) (silence_record other) }
     {
         if self.length < other.length {
-            other
-        } else {
-            self
+            *self = other;
         }
     }
 }
@@ -53,27 +52,27 @@ impl Spread {
         }
     }
 
-    /// One silence more.
-    fn with(self, silence: Silence) -> Spread
-        ensures { (ss : List counted.Silence) → Some (spread_record self) ≡ spread_of ss
-            → Some (spread_record result) ≡ spread_of (ss ++ silence_record silence ∷ []) }
+    /// One silence more. It changes in place, as it is the longest least often.
+    #[inline(always)]
+    fn add(&mut self, silence: Silence)
+        ensures { (ss : List counted.Silence) → Some (spread_record self.old) ≡ spread_of ss
+            → Some (spread_record self.new) ≡ spread_of (ss ++ silence_record silence ∷ []) }
     {
-        Spread {
-            count: self.count.saturating_add(1),
-            sum: self.sum.saturating_add(silence.length),
-            least: self.least.min(silence.length),
-            longest: self.longest.longer(silence),
-        }
+        self.count = self.count.saturating_add(1);
+        self.sum = self.sum.saturating_add(silence.length);
+        self.least = self.least.min(silence.length);
+        self.longest.lengthen(silence);
     }
 
     /// Some silences, or none so far, and one more.
-    fn grown(spread: Option<Spread>, silence: Silence) -> Spread
-        ensures { (ss : List counted.Silence) → option_map spread_record spread ≡ spread_of ss
-            → Some (spread_record result) ≡ spread_of (ss ++ silence_record silence ∷ []) }
+    #[inline(always)]
+    fn grow(spread: &mut Option<Spread>, silence: Silence)
+        ensures { (ss : List counted.Silence) → option_map spread_record spread.old ≡ spread_of ss
+            → option_map spread_record spread.new ≡ spread_of (ss ++ silence_record silence ∷ []) }
     {
         match spread {
-            Some(spread) => spread.with(silence),
-            None => Spread::of(silence),
+            Some(spread) => spread.add(silence),
+            None => *spread = Some(Spread::of(silence)),
         }
     }
 
@@ -107,12 +106,13 @@ impl Distances {
     }
 
     /// One moment more.
+    #[inline(always)]
     pub fn add(&mut self, moment: Stamp)
         ensures { (moments : List ℕ) → HaveMeasured self.old moments → HaveMeasured self.new (moments ++ stamp_micros moment ∷ []) }
     {
         if let Some(since) = self.last {
             let length = moment.micros().saturating_sub(since.micros());
-            self.spread = Some(Spread::grown(self.spread, Silence { since, length }));
+            Spread::grow(&mut self.spread, Silence { since, length });
         }
         self.last = Some(moment);
     }

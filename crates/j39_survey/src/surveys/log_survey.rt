@@ -106,6 +106,7 @@ impl Survey {
 }
 
 /// One frame more, of the interface of this name: the first is that whose groups are counted, where none is known yet.
+#[inline(never)]
 fn meet(
     bus: &mut Option<Bus>,
     traffic: &mut Traffic,

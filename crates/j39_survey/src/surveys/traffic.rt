@@ -34,6 +34,7 @@ impl Traffic {
     }
 
     /// One frame more. Memory is wanted at an announcement alone.
+    #[inline(always)]
     pub fn add(&mut self, frame: &Frame) -> Result<(), AllocError>
         ensures met { OnOk result ((F : List FrameRecord) (heard : List Hearing) → HasMet self.old F heard
             → (more : Option Hearing) × HasMet self.new (F ++ frame.now ∷ []) (heard ++ or_none more)) }
@@ -51,6 +52,7 @@ impl Traffic {
 }
 
 /// The group of the message in packets that is whole with the next frame.
+#[inline(always)]
 fn whole_at(listener: &mut Listener, frame: &Frame) -> Result<Option<Pgn>, AllocError>
     ensures whole { IfOk result (λ whole. (F : List FrameRecord) → Hears listener.old F
         → (more : Option Hearing) × HeardAtWith (λ _. false) (F ++ frame.now ∷ []) (length F) more

@@ -1,28 +1,29 @@
 -- The run of the group's place, where its first row is the group's.
-use Rattle.std.proofs.Common.{arith, sym, ◌∙◌}
-use Rattle.j39_groups.proofs.RunLemmas.{run_at, run_is, run_is_not}
+use Rattle.std.proofs.Common.{◌∙◌, sym}
+use Rattle.j39_groups.proofs.RunLemmas.{run_found, run_not_found}
 use Rattle.j39_groups.proofs.runs.run_of.Goals as goal
 
-pub slice_bounds-rows-count : goal.slice_bounds-rows-count
-slice_bounds-rows-count c = (run_at c.args.runs.now c.args.rows.now c.place_of.result _ c.bounds-first.ensures c.requires.runs c.place_of.ensures.fits).ordered
+pub slice_bounds-result-count : goal.slice_bounds-result-count
+slice_bounds-result-count c =
+    (run_found c.args.runs.now c.args.rows.now c.args.pgn c.place_of.result _ _ c.from-first.ensures c.from.ensures c.place_of.ensures.value c.place_of.ensures.fits
+    c.place_of.ensures.own c.requires.runs c.requires.sound (sym c.is_at.ensures ∙ c.if-is_at.true)).1
 
-pub slice_bounds-rows-start : goal.slice_bounds-rows-start
-slice_bounds-rows-start c = (run_at c.args.runs.now c.args.rows.now c.place_of.result _ c.bounds-first.ensures c.requires.runs c.place_of.ensures.fits).ordered
+pub slice_bounds-result-start : goal.slice_bounds-result-start
+slice_bounds-result-start c =
+    (run_found c.args.runs.now c.args.rows.now c.args.pgn c.place_of.result _ _ c.from-first.ensures c.from.ensures c.place_of.ensures.value c.place_of.ensures.fits
+    c.place_of.ensures.own c.requires.runs c.requires.sound (sym c.is_at.ensures ∙ c.if-is_at.true)).1
 
-pub slice_bounds-rows-end : goal.slice_bounds-rows-end
-slice_bounds-rows-end c = (run_at c.args.runs.now c.args.rows.now c.place_of.result _ c.bounds-first.ensures c.requires.runs c.place_of.ensures.fits).inside
+pub slice_bounds-result-end : goal.slice_bounds-result-end
+slice_bounds-result-end c =
+    (run_found c.args.runs.now c.args.rows.now c.args.pgn c.place_of.result _ _ c.from-first.ensures c.from.ensures c.place_of.ensures.value c.place_of.ensures.fits
+    c.place_of.ensures.own c.requires.runs c.requires.sound (sym c.is_at.ensures ∙ c.if-is_at.true)).2
 
-pub offset_bounds-rows-first : goal.offset_bounds-rows-first
-offset_bounds-rows-first c =
-    let is = run_at c.args.runs.now c.args.rows.now c.place_of.result _ c.bounds-first.ensures c.requires.runs c.place_of.ensures.fits in
-    omega (arith, is.ordered, is.inside)
+pub returns-then-is_at-clause-same : goal.returns-then-is_at-clause-same
+returns-then-is_at-clause-same c =
+    (run_found c.args.runs.now c.args.rows.now c.args.pgn c.place_of.result _ _ c.from-first.ensures c.from.ensures c.place_of.ensures.value c.place_of.ensures.fits
+    c.place_of.ensures.own c.requires.runs c.requires.sound (sym c.is_at.ensures ∙ c.if-is_at.true)).0
 
-pub returns-then-is_first-clause-same : goal.returns-then-is_first-clause-same
-returns-then-is_first-clause-same c =
-    run_is c.args.rows.now c.args.pgn c.place_of.result _ _ c.place_of.ensures.value (run_at c.args.runs.now c.args.rows.now c.place_of.result _ c.bounds-first.ensures c.requires.runs c.place_of.ensures.fits)
-    c.requires.sound c.place_of.ensures.own (sym c.is_first.ensures ∙ c.if-is_first.true)
-
-pub returns-else-is_first-clause-same : goal.returns-else-is_first-clause-same
-returns-else-is_first-clause-same c =
-    run_is_not c.args.rows.now c.args.pgn c.place_of.result _ _ c.place_of.ensures.value (run_at c.args.runs.now c.args.rows.now c.place_of.result _ c.bounds-first.ensures c.requires.runs c.place_of.ensures.fits)
-    c.requires.sound c.place_of.ensures.own (sym c.is_first.ensures ∙ c.if-is_first.false)
+pub returns-else-is_at-clause-same : goal.returns-else-is_at-clause-same
+returns-else-is_at-clause-same c =
+    run_not_found c.args.runs.now c.args.rows.now c.args.pgn c.place_of.result _ c.from-first.ensures c.place_of.ensures.value c.place_of.ensures.fits
+    c.place_of.ensures.own c.requires.runs c.requires.sound (sym c.is_at.ensures ∙ c.if-is_at.false)

@@ -1,5 +1,5 @@
 -- The value of the origin follows, or a row begins.
-use Rattle.j39_watch.proofs.Common.{◌<◌, ◌∙◌, ap, inl, inr, length, rules, sym, stands_within, place_in, stamp_micros, on_ok_from, value_of, on_err, on_err_from, pairs_of}
+use Rattle.j39_watch.proofs.Common.{◌<◌, ◌∙◌, inl, inr, length, rules, sym, stands_within, stamp_micros, on_ok_from, value_of, on_err, on_err_from, pairs_of}
 use Rattle.j39_watch.proofs.ValueLemmas.{follows, is_new}
 use Rattle.j39_watch.proofs.values.take.Goals as goal
 
@@ -10,7 +10,7 @@ change-requires c =
     search rules
 
 pub add-requires : goal.add-requires
-add-requires c = ap (place_in (pairs_of c.args.rows.now)) c.again.ensures ∙ (sym c.requires ∙ c.in-None.is)
+add-requires c = sym c.requires ∙ c.in-None.is
 
 pub returns-in-None-clause-wanted : goal.returns-in-None-clause-wanted
 returns-in-None-clause-wanted c =
@@ -18,7 +18,7 @@ returns-in-None-clause-wanted c =
     (sym c.requires ∙ c.in-None.is) are))
 
 pub returns-in-None-clause-taken : goal.returns-in-None-clause-taken
-returns-in-None-clause-taken c = rw c.again.ensures at c.add.ensures
+returns-in-None-clause-taken c = c.add.ensures
 
 pub returns-in-Some-clause-wanted : goal.returns-in-Some-clause-wanted
 returns-in-Some-clause-wanted c = on_err_from c.change.result _ _ (λ text before are. inr text) c.change.ensures.3.1

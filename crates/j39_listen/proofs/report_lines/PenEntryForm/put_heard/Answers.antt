@@ -20,8 +20,8 @@ lines_are groups h sender is =
 
 pub returns-in-Ok-clause-puts : goal.returns-in-Ok-clause-puts
 returns-in-Ok-clause-puts g c =
-    puts_as _ _ _ _ (lines_are c.args.self.now.groups.now (hearing_of c.args.heard.now) _ c.head_before-from.ensures.head) c.in-Ok.ensures.puts
+    puts_as _ _ _ _ (lines_are c.args.self.now.groups.now (hearing_of c.args.heard.now) _ c.put_head.ensures) c.in-Ok.ensures.puts
 
 pub returns-in-Err-clause-puts : goal.returns-in-Err-clause-puts
 returns-in-Err-clause-puts g c =
-    puts_as _ _ _ _ (lines_are c.args.self.now.groups.now (hearing_of c.args.heard.now) _ c.head_before-from.ensures.head) c.in-Err.ensures.puts
+    puts_as _ _ _ _ (lines_are c.args.self.now.groups.now (hearing_of c.args.heard.now) _ c.put_head.ensures) c.in-Err.ensures.puts

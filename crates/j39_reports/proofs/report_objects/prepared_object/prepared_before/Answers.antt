@@ -23,8 +23,8 @@ returns-clause-written c = λ group.
     let sides = c.in_ok-sides.ensures in
     let before_is = sides.suits.before_is ∙ ap₂ (λ pgn spn. parameter_members spn (name_in groups pgn spn) ++ codes ",\"value\":") sides.pgn sides.spn in
     let none = ap₂ (λ pgn spn. state_in groups pgn spn (value_of c.args.value)) (sym sides.pgn) (sym sides.spn) ∙ sides.suits.stateless (value_of c.args.value) in
-    subst (WritesBefore c.args.out.now c.tail_before.new.out 496 c.tail_before.result)
+    subst (WritesBefore c.args.out.now c.head_before.new.out 496 c.head_before.result)
     (members c.args.opening.now group (name_in groups c.args.pgn c.args.spn) (state_in groups c.args.pgn c.args.spn (value_of c.args.value)) _ _ c.args.spn (value_of c.args.value)
     c.if-not-opening.false before_is (ap (λ (unit : Option (List ℕ)). behind_members unit None) c.unit_in-unit.ensures) none)
     (before_then _ _ _ _ _ _ _ _ (before_then _ _ _ _ _ _ _ _ (before_then _ _ _ _ _ _ _ _
-    c.in_ok-end.ensures.written c.in_ok-json.ensures.written) c.tail_before-name.ensures.written) c.tail_before.ensures.written)
+    c.in_ok-end.ensures.written c.in_ok-json.ensures.written) c.tail_before-name.ensures.written) c.head_before.ensures)

@@ -10,5 +10,5 @@ all o group later has = sym (ap (λ (b : Bool). (if b then drop o.from o.head el
 
 pub returns-clause-written : goal.returns-clause-written
 returns-clause-written c = λ group.
-    subst (WritesBefore c.args.out.now c.tail_before.new.out 496 c.tail_before.result) (all c.args.opening.now group _ c.if-not-opening.false)
-    (before_then _ _ _ _ _ _ _ _ (before_then _ _ _ _ _ _ _ _ c.in_ok-behind.ensures.written c.in_ok-number.ensures.written) c.tail_before.ensures.written)
+    subst (WritesBefore c.args.out.now c.head_before.new.out 496 c.head_before.result) (all c.args.opening.now group _ c.if-not-opening.false)
+    (before_then _ _ _ _ _ _ _ _ (before_then _ _ _ _ _ _ _ _ c.in_ok-behind.ensures.written c.in_ok-number.ensures.written) c.head_before.ensures)

@@ -9,16 +9,16 @@ change-requires c =
     let within : c.in-Some.at < length (pairs_of c.args.rows.now) = stands_within (pairs_of c.args.rows.now) c.in-Some.at c.args.origin (sym c.requires ∙ c.in-Some.is) in
     search rules
 
-pub begin_row-requires : goal.begin_row-requires
-begin_row-requires c = sym c.requires ∙ c.in-None.is
+pub add-requires : goal.add-requires
+add-requires c = sym c.requires ∙ c.in-None.is
 
 pub returns-in-None-clause-wanted : goal.returns-in-None-clause-wanted
 returns-in-None-clause-wanted c =
-    on_err c.begin_row.result _ (λ before are. inl (is_new c.args.origin (stamp_micros c.args.stamp) (value_of c.args.value) (pairs_of c.args.rows.now) before
+    on_err c.add.result _ (λ before are. inl (is_new c.args.origin (stamp_micros c.args.stamp) (value_of c.args.value) (pairs_of c.args.rows.now) before
     (sym c.requires ∙ c.in-None.is) are))
 
 pub returns-in-None-clause-taken : goal.returns-in-None-clause-taken
-returns-in-None-clause-taken c = c.begin_row.ensures
+returns-in-None-clause-taken c = c.add.ensures
 
 pub returns-in-Some-clause-wanted : goal.returns-in-Some-clause-wanted
 returns-in-Some-clause-wanted c = on_err_from c.change.result _ _ (λ text before are. inr text) c.change.ensures.3.1

@@ -12,7 +12,7 @@ returns-in-Some-clause-counted c =
 
 pub returns-in-None-clause-counted : goal.returns-in-None-clause-counted
 returns-in-None-clause-counted c = on_ok_from c.add.result _ _ (λ added absences are.
-    counts_begin c.args.origin (pairs_of c.args.self.now.counts) _ absences (sym c.place_of-place.ensures ∙ c.in-None.is) (rw c.again.ensures at added) are) c.add.ensures.added
+    counts_begin c.args.origin (pairs_of c.args.self.now.counts) _ absences (sym c.place_of-place.ensures ∙ c.in-None.is) added are) c.add.ensures.added
 
 pub returns-in-None-clause-wanted : goal.returns-in-None-clause-wanted
 returns-in-None-clause-wanted c = on_err c.add.result _

@@ -1,30 +1,28 @@
 -- The reading goes to its row, and what is not available stays.
-use Rattle.j39_reports.proofs.Common.{◌≡◌, ◌∙◌, ap, pairs_of, stamp_micros, Origin, on_ok_from, value_of, ReadingRecord, entry_of}
+use Rattle.j39_reports.proofs.Common.{◌≡◌, ◌∷◌, ◌++◌, [], ◌∙◌, ap, refl, List, Origin, pairs_of, stamp_micros, on_ok_from, told, Entry, SightingRecord, ReadingRecord, entry_of}
 use Rattle.j39_reports.specs.RowModels.{entry_at}
+use Rattle.j39_reports.specs.RowsSoFar.{AreRowsOf, HasTaken, Message}
+use Rattle.j39_reports.specs.MessageHeads.{origin_in}
+use Rattle.j39_reports.specs.declared.summaries.rows.Rows.{Rows}
+use Rattle.j39_reports.proofs.HeadLemmas.{entry_with}
 use Rattle.j39_reports.proofs.TakenLemmas.{counts_keep, rows_take}
 use Rattle.j39_reports.proofs.summaries.rows.RowsReadingVisitorUnit.visit.Goals as goal
 
-pub returns-clause-taken : goal.returns-clause-taken
-returns-clause-taken c = on_ok_from c.take.result _ _ (λ taken message before has.
-    let value = value_of c.args.value in
-    let r : ReadingRecord = record { spn = c.args.spn; value = value } in
-    let stamp = stamp_micros c.args.self.now.stamp in
-    let is : entry_at c.origin_of-origin.result stamp value ≡ entry_of message.hearing r =
-    ap (λ (o : Origin). entry_at o stamp value) c.origin_of-origin.ensures ∙ (λ i. record {
-      stamp = has.stamp_is i;
-      address = has.address_is i;
-      destination = has.destination_is i;
-      name = has.name_is i;
-      pgn = has.pgn_is i;
-      spn = c.args.spn;
-      value = value;
-    }) in
+-- the rows have the reading's entry
+took : (old new : Rows) (r : ReadingRecord) (o : Origin) → o ≡ origin_in old.head r.spn → new.head ≡ old.head → new.absences ≡ old.absences
+    → ((es : List Entry) → AreRowsOf (pairs_of old.rows) es → AreRowsOf (pairs_of new.rows) (es ++ entry_at o (stamp_micros old.head.stamp) r.value ∷ []))
+    → (message : Message) (before : List SightingRecord) → HasTaken message old before → HasTaken message new (before ++ told r ∷ [])
+took old new r o own head absences taken message before has =
+    let is : entry_at o (stamp_micros old.head.stamp) r.value ≡ entry_of message.hearing r =
+    ap (λ (x : Origin). entry_at x (stamp_micros old.head.stamp) r.value) own ∙ entry_with old.head message.hearing r has.head_is in
     record {
-      are_rows = rows_take message before (pairs_of c.take.new.rows) r _ is (taken _ has.are_rows);
-      are_counted = counts_keep message before (pairs_of c.args.self.now.absences.counts) r has.are_counted;
-      stamp_is = has.stamp_is;
-      address_is = has.address_is;
-      destination_is = has.destination_is;
-      name_is = has.name_is;
-      pgn_is = has.pgn_is;
-    }) c.take.ensures.taken
+      are_rows = rows_take message before (pairs_of new.rows) r _ is (taken _ has.are_rows);
+      are_counted = rw absences (counts_keep message before (pairs_of old.absences.counts) r has.are_counted);
+      head_is = rw head has.head_is;
+    }
+
+pub returns-in-Some-clause-taken : goal.returns-in-Some-clause-taken
+returns-in-Some-clause-taken c = on_ok_from c.take.result _ _ (λ taken message before has. took _ _ _ _ c.origin-origin.ensures refl refl taken message before has) c.take.ensures.taken
+
+pub returns-in-None-clause-taken : goal.returns-in-None-clause-taken
+returns-in-None-clause-taken c = on_ok_from c.take_elsewhere.result _ _ (λ taken message before has. took _ _ _ _ refl refl refl taken message before has) c.take_elsewhere.ensures.taken

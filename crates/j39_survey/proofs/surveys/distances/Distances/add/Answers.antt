@@ -18,7 +18,7 @@ returns c = λ moments h.
           let since = stamp_micros w.in-Some.since in
           let length : w.saturating_sub-length.result ≡ moment - since = omega (arith, w.micros.ensures.value, w.micros-in-Some.ensures.value) in
           ap (λ (d : Distances). option_map spread_record d.spread) w.self-is
-          ∙ w.grown.ensures (silences_in moments) h.spread_is
+          ∙ w.grow.ensures (silences_in moments) h.spread_is
           ∙ ap (λ n. spread_of (silences_in moments ++ record { since = since; length = n } ∷ [])) length
           ∙ ap spread_of (sym (silences-more moments since moment (ap (option_map stamp_micros) (sym w.in-Some.is) ∙ h.last_is)))
       | in_default w ↦

@@ -1,8 +1,0 @@
-use Rattle.std.proofs.Common.{arith}
-use Rattle.j39_survey.specs.SurveyModels.{silence_record, spread_record}
-use Rattle.j39_survey.proofs.GroupLemmas.{spread-more}
-use Rattle.j39_survey.proofs.surveys.distances.Spread.with.Goals as goal
-
-pub returns : goal.returns
-returns c = λ ss is.
-    spread-more ss (spread_record c.args.self) (silence_record c.args.silence) _ _ _ _ is (omega arith) (omega arith) (omega arith) c.longer.ensures
