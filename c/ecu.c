@@ -22,13 +22,14 @@ static const j1939_setup setup = {.name = NAME,
                                   .broadcasts = 0,
                                   .is_subscribed = 1,
                                   .sessions = 1,
+                                  .transfers = 1,
                                   .window = 16,
                                   .served = served,
                                   .served_count = sizeof served / sizeof served[0],
                                   .subscribed = subscribed,
                                   .subscribed_count = sizeof subscribed / sizeof subscribed[0]};
 static j1939_controller engine = J1939_EMPTY;
-static uint8_t memory[J1939_CONTROLLER_SIZE(0, 1)];
+static uint8_t memory[J1939_CONTROLLER_SIZE(0, 1, 1)];
 static int64_t speed;
 static uint32_t partners_rpm;
 static uint64_t speed_due, second_due;

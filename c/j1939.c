@@ -439,7 +439,7 @@ int32_t j1939_controller_new(j1939_controller *controller, const j1939_setup *se
 }
 
 size_t j1939_controller_size(const j1939_setup *setup) {
-    return setup ? J1939_CONTROLLER_SIZE(setup->broadcasts, setup->sessions) : 0;
+    return setup ? J1939_CONTROLLER_SIZE(setup->broadcasts, setup->sessions, setup->transfers) : 0;
 }
 
 int32_t j1939_controller_at(j1939_controller *controller, void *memory, size_t size, const j1939_setup *setup) {

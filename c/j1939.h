@@ -418,14 +418,15 @@ typedef struct {
 
 /* How many bytes .._at wants for each kind of handle, wherever they begin; .._size answers the same of the library that a program is
  * linked with. A listener's and an assembler's have room for so many messages in packets that are open at once, the one handed out
- * last among them, at most 271; a sender's for so many bytes of a message, a controller's for so many broadcasts and sessions. No call with such a handle takes
- * other memory. */
+ * last among them, at most 271; a sender's for so many bytes of a message, a controller's for so many broadcasts, sessions and transfers. No call with such
+ * a handle takes other memory. */
 /* clang-format off */
 #define J1939_LISTENER_SIZE(messages) (6720 + 1824 * (size_t)(messages))
 #define J1939_ASSEMBLER_SIZE(messages) (4416 + 1824 * (size_t)(messages))
 #define J1939_RECEIVER_SIZE ((size_t)1984)
 #define J1939_SENDER_SIZE(bytes) (192 + (size_t)(bytes))
-#define J1939_CONTROLLER_SIZE(broadcasts, sessions) (8704 + 1888 * (size_t)(broadcasts) + 3744 * (size_t)(sessions))
+#define J1939_CONTROLLER_SIZE(broadcasts, sessions, transfers) \
+    (6912 + 1888 * (size_t)(broadcasts) + 3744 * (size_t)(sessions) + 1952 * (size_t)(transfers))
 /* clang-format on */
 
 /* ---- a listener (J1939-21, 5.10; J1939-81, 4.2) */
@@ -594,6 +595,8 @@ typedef struct {
                                        for you; where no box is free, another is refused (abort 2), and all with 0 */
     uint8_t window;               /**< how many packets it lets a sender send at once, by a CTS; 0 sets no limit. What your
                                        driver can't take at once is lost, so 16 fits most */
+    uint8_t transfers;            /**< how many messages in packets it sends to others' addresses at once, one to each, until their
+                                       ends are taken; with 0 none */
     const uint32_t *served;       /**< the groups that its program serves: a request for another is refused */
     size_t served_count;          /**< how many these are, 0 to 16 */
     const uint32_t *subscribed;   /**< the groups that it subscribes, where is_subscribed is not 0 */
@@ -601,7 +604,7 @@ typedef struct {
 } j1939_setup;
 
 /** Opens a controller that is made for this. J1939_BAD_VALUE for an address above 253, more groups, or one of 2^18 and above.
- * It takes all its memory here: some 9 kB, 1.9 kB for each broadcast, and 3.7 kB for each session.
+ * It takes all its memory here: some 7 kB, 1.9 kB for each broadcast and transfer, and 3.7 kB for each session.
  * @return 0, J1939_BAD_VALUE, J1939_NO_MEMORY, J1939_IN_USE */
 int32_t j1939_controller_new(j1939_controller *controller, const j1939_setup *setup);
 
@@ -713,9 +716,10 @@ int32_t j1939_controller_withdraw(j1939_controller *controller, uint64_t token);
 int32_t j1939_controller_broadcast(j1939_controller *controller, uint64_t micros, uint32_t pgn, const uint8_t *payload,
                                    size_t size, uint64_t *token);
 
-/** The same to another's address (J1939-21, 5.10.3), as that clears it; 255 is none. J1939_FULL also for 4 s after the
- * end of one of this group to this address was told that was not acknowledged, and, where one of another pair ended so
- * in these 4 s, for 4 s after that.
+/** The same to another's address (J1939-21, 5.10.3), as that clears it; 255 is none. J1939_FULL while one to this address
+ * is accepted and not told, or as many are as the setup has transfers; also for 4 s after the end of one of this group to
+ * this address that was not acknowledged, unless it was unsent or refused at once (abort 1, 2), and while twice as many
+ * pairs as transfers wait so.
  * @return 0, 1, J1939_BAD_VALUE, J1939_NO_PART, J1939_NO_ADDRESS, J1939_FULL */
 int32_t j1939_controller_transfer(j1939_controller *controller, uint64_t micros, uint32_t pgn, uint8_t to,
                                   const uint8_t *payload, size_t size, uint64_t *token);

@@ -354,6 +354,7 @@ static void run(station *s, uint8_t preferred, uint64_t last) {
                                                              .delay = (uint8_t)s->start,
                                                              .broadcasts = 1,
                                                              .sessions = 4,
+                                                             .transfers = 4,
                                                              .window = 16,
                                                              .served = SERVED,
                                                              .served_count = sizeof SERVED / sizeof SERVED[0]}));

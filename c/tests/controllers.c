@@ -124,7 +124,7 @@ static struct node {
 
 static void opens(struct node *node, uint64_t name, uint8_t address) {
     static const uint32_t served[] = {SERVED};
-    j1939_setup setup = {.name = name, .address = address, .delay = (uint8_t)name, .broadcasts = 1, .sessions = 1, .served = served, .served_count = 1};
+    j1939_setup setup = {.name = name, .address = address, .delay = (uint8_t)name, .broadcasts = 1, .sessions = 1, .transfers = 1, .served = served, .served_count = 1};
     node->name = name;
     EXPECT(j1939_controller_new(&node->controller, &setup) == 0);
 }

@@ -872,7 +872,7 @@ static void move_of(j1939_controller *controller) {
 
 static void controllers(void) {
     static const uint32_t served[17] = {65260}, no_group[1] = {1u << 18};
-    j1939_setup setup = {.name = 1, .address = 254, .delay = 10, .broadcasts = 1, .sessions = 1, .served = served, .served_count = 16};
+    j1939_setup setup = {.name = 1, .address = 254, .delay = 10, .broadcasts = 1, .sessions = 1, .transfers = 1, .served = served, .served_count = 16};
     j1939_controller controller = J1939_EMPTY;
     j1939_listener foreign = J1939_EMPTY;
     EXPECT(j1939_controller_new(&controller, &setup) == J1939_BAD_VALUE);

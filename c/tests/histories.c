@@ -30,7 +30,7 @@ static j1939_frame frame_of(unsigned priority, unsigned group, unsigned to, unsi
 
 static void opens(j1939_controller *controller, uint64_t name, uint8_t address) {
     static const uint32_t served[] = {65260};
-    j1939_setup setup = {.name = name, .address = address, .broadcasts = 2, .sessions = 1, .served = served, .served_count = 1};
+    j1939_setup setup = {.name = name, .address = address, .broadcasts = 2, .sessions = 1, .transfers = 1, .served = served, .served_count = 1};
     EXPECT(j1939_controller_close(controller) == 0);
     EXPECT(j1939_controller_new(controller, &setup) == 0);
 }

@@ -38,7 +38,7 @@ static void open_listener(void) { EXPECT(j1939_listener_new(&listener) == 0); }
 static void open_assembler(void) { EXPECT(j1939_assembler_new(&assembler) == 0); }
 static void open_receiver(void) { EXPECT(j1939_receiver_new(&receiver, 3) == 0); }
 static void open_sender(void) { EXPECT(j1939_sender_new(&sender, 1, 3, 65260, payload, sizeof payload) == 0); }
-static const j1939_setup setup = {.name = 1, .address = 3, .broadcasts = 1, .sessions = 1};
+static const j1939_setup setup = {.name = 1, .address = 3, .broadcasts = 1, .sessions = 1, .transfers = 1};
 static void open_controller(void) { EXPECT(j1939_controller_new(&controller, &setup) == 0); }
 static void hear(void) { EXPECT(j1939_listener_feed(&listener, &engine, &message) == 1); }
 static void hear_other(void) { EXPECT(j1939_listener_feed(&listener, &other, &message) == 0); }

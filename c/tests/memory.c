@@ -96,12 +96,14 @@ static void sizes(void) {
     for (bytes = 9; bytes <= J1939_LONGEST; bytes++) wants(open_sender, j1939_sender_size(bytes));
     bytes = 20, refuses(open_sender, j1939_sender_size(20));
     for (int boxes = 0; boxes < 256; boxes++) {
-        setup.broadcasts = (uint8_t)boxes, setup.sessions = 0;
+        setup.broadcasts = (uint8_t)boxes, setup.sessions = setup.transfers = 0;
         wants(open_controller, j1939_controller_size(&setup));
         setup.broadcasts = 0, setup.sessions = (uint8_t)boxes;
         wants(open_controller, j1939_controller_size(&setup));
+        setup.sessions = 0, setup.transfers = (uint8_t)boxes;
+        wants(open_controller, j1939_controller_size(&setup));
     }
-    setup.broadcasts = 2, setup.sessions = 2, refuses(open_controller, j1939_controller_size(&setup));
+    setup.broadcasts = 2, setup.sessions = 2, setup.transfers = 2, refuses(open_controller, j1939_controller_size(&setup));
     EXPECT(j1939_listener_size(2) == J1939_LISTENER_SIZE(2) && j1939_listener_size(1000) == J1939_LISTENER_SIZE(271));
     EXPECT(j1939_controller_size(NULL) == 0);
 }

@@ -224,7 +224,7 @@ static void call_controller(j1939_controller *controller, uint8_t address) {
     size_t size = (size_t)(next() % 64 ? 9 + next() % 20 : next() % sizeof payload);
     uint8_t priority = (uint8_t)(next() % 9), delay = (uint8_t)next();
     uint32_t pgn = next() % 2 ? 65260 : 65262;
-    j1939_setup setup = {.name = name, .address = address, .delay = delay, .broadcasts = 1, .sessions = 2, .window = (uint8_t)(delay % 4), .served = served, .served_count = 2,
+    j1939_setup setup = {.name = name, .address = address, .delay = delay, .broadcasts = 1, .sessions = 2, .transfers = 1, .window = (uint8_t)(delay % 4), .served = served, .served_count = 2,
                          .subscribed = wanted, .subscribed_count = 3};
     payload[next() % sizeof payload] = (uint8_t)size;
     switch (next() % 15) {

@@ -8,7 +8,7 @@ int main(int count, char **words) {
     uint64_t token, now = (uint64_t)count;
     uint8_t priority;
     (void)words;
-    if (j1939_controller_new(&controller, &(j1939_setup){.name = 1, .address = 3, .broadcasts = 1, .sessions = 1}) != 0) return 1;
+    if (j1939_controller_new(&controller, &(j1939_setup){.name = 1, .address = 3, .broadcasts = 1, .sessions = 1, .transfers = 1}) != 0) return 1;
     j1939_controller_hear(&controller, &frame, now);
     j1939_controller_take_received(&controller, &message, &priority);
     j1939_controller_send(&controller, now, 6, 61444, 255, message.data, 8, &token);

@@ -6,11 +6,6 @@ use Rattle.bus_demo.specs.Publishing.{AreDueAgain, AreNoted, rate_after}
 use Rattle.bus_demo.specs.declared.bus.book.Handed.{Handed}
 use Rattle.bus_demo.specs.declared.bus.role.Rate.{Rate}
 
-inside : {X : Type 0} (xs : List X) (k : ℕ) (x : X) → slice_get xs k ≡ Some x → k < length xs
-inside [] k x there = absurd (cc)
-inside (y ∷ ys) zero x there = omega arith
-inside (y ∷ ys) (suc k) x there = let less = inside ys k x there in omega (arith, less)
-
 there_is : {X : Type 0} (xs : List X) (k : ℕ) → k < length xs → (x : X) × (slice_get xs k ≡ Some x)
 there_is [] k less = absurd (omega arith)
 there_is (y ∷ ys) zero less = (y, refl)
@@ -19,25 +14,7 @@ there_is (y ∷ ys) (suc k) less = there_is ys k (omega (arith, less))
 same : {X : Type 0} (x y : X) (o : Option X) → o ≡ Some x → o ≡ Some y → x ≡ y
 same x y o is other = cc
 
-in_front : {X : Type 0} (xs ys : List X) (k : ℕ) (x : X) → slice_get xs k ≡ Some x → slice_get (xs ++ ys) k ≡ Some x
-in_front [] ys k x there = absurd (cc)
-in_front (z ∷ zs) ys zero x there = there
-in_front (z ∷ zs) ys (suc k) x there = in_front zs ys k x there
-
-at_end : {X : Type 0} (xs : List X) (k : ℕ) (last x : X) → length xs ≤ k → slice_get (xs ++ (last ∷ [])) k ≡ Some x → last ≡ x
-at_end [] zero last x past there = cc
-at_end [] (suc k) last x past there = absurd (cc)
-at_end (z ∷ zs) zero last x past there = absurd (omega arith)
-at_end (z ∷ zs) (suc k) last x past there = at_end zs k last x (omega (arith, past)) there
-
 module _ (name : ℕ) where
-  pub noted_none : (all : List Handed) → AreNoted name all all
-  noted_none all = record {
-    grows = omega arith;
-    stays = λ k message there. there;
-    more = λ k message past there. let less = inside all k message there in absurd (omega (arith, past, less));
-  }
-
   pub noted_then : (old mid new : List Handed) → AreNoted name old mid → AreNoted name mid new → AreNoted name old new
   noted_then old mid new first second = record {
     grows = (let a = first.grows in let b = second.grows in omega (arith, a, b));
@@ -48,13 +25,6 @@ module _ (name : ℕ) where
           subst (λ (m : Handed). name_raw m.name ≡ name) (same at.0 message _ (second.stays k at.0 at.1) there) (first.more k at.0 past at.1)
       | inr not_less ↦ second.more k message (ltb-false _ _ not_less) there
     ];
-  }
-
-  pub noted_one : (old : List Handed) (one : Handed) → name_raw one.name ≡ name → AreNoted name old (old ++ (one ∷ []))
-  noted_one old one is = record {
-    grows = (let len = length-append old (one ∷ []) in omega (arith, len));
-    stays = λ k message there. in_front old (one ∷ []) k message there;
-    more = λ k message past there. subst (λ (m : Handed). name_raw m.name ≡ name) (at_end old k one message past there) is;
   }
 
 -- ---- what was due

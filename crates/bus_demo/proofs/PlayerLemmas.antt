@@ -4,7 +4,3 @@ use Rattle.std.proofs.Common.{Ok, Err, OnOk, Result}
 pub on_ok : {T E : Type 0} (r : Result T E) (P Q : Type 0) → (P → Q) → OnOk r P → OnOk r Q
 on_ok (Ok x) P Q f h = f h
 on_ok (Err e) P Q f h = tt
-
-pub wherever_ok : {T E : Type 0} (r : Result T E) (P : Type 0) → P → OnOk r P
-wherever_ok (Ok x) P p = p
-wherever_ok (Err e) P p = tt

@@ -10,8 +10,8 @@ use Rattle.j39_node.specs.History.Call.{At}
 use Rattle.j39_node.specs.History.Act.{Hear}
 use Rattle.j39_node.specs.Reception.{reception}
 use Rattle.j39_node.specs.Transfers.{next_transfer_ended}
-use Rattle.j39_node.specs.declared.kinds.TransferEnding.{TransferEnding}
-use Rattle.j39_node.specs.declared.kinds.TransferEnding.TheVariants.{Done}
+use Rattle.j39_transfers.specs.declared.kinds.Ending.{Ending as TransferEnding}
+use Rattle.j39_transfers.specs.declared.kinds.Ending.TheVariants.{Done}
 use Rattle.bus_demo.specs.declared.bus.book.Book.{Book}
 use Rattle.bus_demo.specs.declared.bus.book.Delivery.{Delivery}
 

@@ -7,7 +7,7 @@ use Rattle.bus_demo.specs.declared.bus.player.Player.{Player}
 
 -- a player that has claimed nothing yet, of this NAME and address
 abbrev pub IsPlayed : ℕ → ℕ → Player → Type 0
-IsPlayed name preferred player = Is (record { name = name; address = preferred; delay = 0; served = []; subscribed = None; boxes = 8; sessions = 4; window = 16; brought = nothing }) [] (controller_of player)
+IsPlayed name preferred player = Is (record { name = name; address = preferred; delay = 0; served = []; subscribed = None; boxes = 8; sessions = 4; transfers = 1; window = 16; brought = nothing }) [] (controller_of player)
 
 -- the engine, its rival, the gearbox and the tool
 pub record PlaysAll (players : List Player) : Type 0 where

@@ -177,13 +177,30 @@ fn looked_at<'a>(
         let ends = FileEnds::new(file, b"", b"");
         return Ok(Some((Input::File(log), ends)));
     }
-    let (ends, start) = ends_in(&mut log, file)?;
+    let (ends, start) = seen_in(rt, &mut log, file)?;
     let input = if is_one_of_several {
         Input::Later(Later { rt, file, start })
     } else {
         Input::File(log)
     };
     Ok(Some((input, ends)))
+}
+
+/// What is seen at both ends of a file, and where its first line begins; it stands there then. What opens but can't be read from any
+/// place, as files of /proc, is opened once more.
+fn seen_in<'a>(
+    rt: &'a HostRuntime,
+    log: &mut File,
+    file: &'a str,
+) -> io::Result<(FileEnds<'a>, u64)>
+    ensures file { IfOk result (λ seen. seen.0.file.now ≡ file.entry.now) }
+    ensures seen { IfOk result (λ seen. IsEndsOfSome (ends_record seen.0)) }
+{
+    if let Ok(seen) = ends_in(log, file) {
+        return Ok(seen);
+    }
+    *log = fs::open(rt, file)?;
+    Ok((FileEnds::new(file, b"", b""), 0))
 }
 
 /// What is seen at both ends of a file, and where its first line begins: behind a byte order mark. It stands there then.

@@ -24,8 +24,8 @@ use Rattle.j39_node.specs.declared.kinds.News.{News}
 use Rattle.j39_node.specs.declared.kinds.News.TheVariants.{AddressLost, AnotherAtAddress, MessagesMissed, NameDoubled}
 use Rattle.j39_node.specs.declared.kinds.Refused.{Refused}
 use Rattle.j39_node.specs.declared.kinds.Refused.TheVariants.{NoAddress, BadValue, Full}
-use Rattle.j39_node.specs.declared.kinds.TransferEnding.{TransferEnding}
-use Rattle.j39_node.specs.declared.kinds.TransferEnding.TheVariants as transfer
+use Rattle.j39_transfers.specs.declared.kinds.Ending.{Ending as TransferEnding}
+use Rattle.j39_transfers.specs.declared.kinds.Ending.TheVariants as transfer
 use Rattle.j39_c.specs.declared.controller.PlainSetup.{PlainSetup}
 use Rattle.j39_c.specs.Codes.{bad_value, full, no_address, no_part}
 use Rattle.j39_c.specs.Messages.{hearing_in}
@@ -81,6 +81,7 @@ IsNew s served subscribed c = Is (record {
   subscribed = subscribed;
   boxes = s.broadcasts;
   sessions = s.sessions;
+  transfers = s.transfers;
   window = s.window;
   brought = nothing;
 }) [] c

@@ -53,6 +53,8 @@ pub struct PlainSetup {
     pub sessions: u8,
     /// How many packets it lets a sender send at once; 0 sets no limit.
     pub window: u8,
+    /// How many messages in packets it sends to others' addresses at once.
+    pub transfers: u8,
 }
 
 /// Opens a controller that is made for this, whose program serves these groups, and subscribes these, unless it does all: 0; -1 for an
@@ -388,6 +390,7 @@ fn make(
         subscribed,
         broadcasts: setup.broadcasts,
         sessions: setup.sessions,
+        transfers: setup.transfers,
         window: setup.window,
     };
     match Controller::boxed(alloc, &made) {

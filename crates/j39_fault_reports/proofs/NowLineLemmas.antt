@@ -77,14 +77,6 @@ module _ (form : Format) (rows : Manner) (till : Option ℕ) (a : ℕ) (last : L
       ∙ ap (now_lines rows) (map-append (λ (n : Now). named n) (map (now_shown a last) (map standing_record ss)) (map (now_shown a last) (map standing_record ts)))
       ∙ count_by-append (told_asked rows) (named_by ss) (named_by ts)
 
-  -- no more than these
-  pub few_counted : (ss : List Standing) → counted ss ≤ length ss
-  few_counted ss =
-      let few = count_by-le-length (told_asked rows) (named_by ss) in
-      let all : length (named_by ss) ≡ length ss = length-map (map (now_shown a last) (map standing_record ss)) (λ (n : Now). named n)
-      ∙ length-map (map standing_record ss) (now_shown a last) ∙ length-map ss standing_record in
-      omega (arith, few, all)
-
   pub count_more : (ss : List Standing) (i : ℕ) (s : Standing) (count n : ℕ) → i < length ss → s ≡ slice_index_or ss i s → count ≡ counted (take i ss)
       → n ≡ one_if (names_asked rows.spns s.code) → count + n ≡ counted (take (i + 1) ss)
   count_more ss i s count n below is so_far one =

@@ -1,5 +1,5 @@
 //! What each line of a message begins with before the number of its group, remembered for each sender.
-ghost use Rattle.std.specs.Prelude.{◌≡◌, ◌+◌, ◌<◌, ◌≤◌, drop, length, slice_index_or};
+ghost use Rattle.std.specs.Prelude.{◌≡◌, ◌+◌, ◌<◌, ◌≤◌, ℕ, None, drop, length, slice_index_or};
 ghost use Rattle.std.specs.Option.{option_map};
 ghost use Rattle.j39_address.specs.Name.{name_raw};
 ghost use Rattle.j39_io.specs.Backwards.{WritesBefore};
@@ -57,9 +57,14 @@ pub(crate) struct Heads {
 
 impl Heads {
     ghost use Rattle.j39_listen.specs.declared.head.Sender.{Sender};
+    ghost use Rattle.j39_log.specs.StampTexts.{text_micros};
 
     /// With nothing heard.
-    pub fn new() -> Heads {
+    pub fn new() -> Heads
+        ensures stamp { text_micros result.stamp ≡ 0 }
+        ensures addresses { (place : ℕ) (d : Sender) → place < 256 → (slice_index_or result.senders place d).address ≡ 0 }
+        ensures names { (place : ℕ) (d : Sender) → place < 256 → (slice_index_or result.senders place d).name ≡ None }
+    {
         Heads {
             stamp: StampText::of(0),
             senders: [Sender::new(0, None); 256],
@@ -68,7 +73,10 @@ impl Heads {
 
     /// Notes the text of a stamp that may come next.
     #[inline(always)]
-    pub fn note_stamp(&mut self, text: StampText) {
+    pub fn note_stamp(&mut self, text: StampText)
+        ensures stamp { self.new.stamp ≡ text }
+        ensures senders { self.new.senders ≡ self.old.senders }
+    {
         self.stamp = text;
     }
 

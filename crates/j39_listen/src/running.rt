@@ -82,8 +82,8 @@ pub fn run_over<A: Account, R: Source, W: Sink>(
     ensures kept_up { result ≡ Err Read → AtStart A.has_met account (λ subject. KeepsUp (A.has_met subject) [] bus
         (R.remaining source.old) (R.remaining source.new) (W.written sink.old) (W.written sink.new)) }
 {
-    let (ran, _) = run_keeping(account, source, sink, bus, limit);
-    ran
+    let mut pieces = Pieces::new(account, bus);
+    read_pieces(&mut pieces, source, sink, limit)
 }
 
 /// Writes an account as `run_over` does, and hands it back: after a run that ended well it has met the log's frames.

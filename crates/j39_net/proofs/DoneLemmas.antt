@@ -1,5 +1,5 @@
 -- What is told as done was made whole.
-use Rattle.std.proofs.Common.{[], append-nil, if◌then◌else◌, ◌++◌, ◌*◌, ◌+◌, ◌<◌, ◌^◌, ◌&&◌, ◌||◌, ◌∙◌, ◌∷◌, ◌≡◌, ◌≢◌, ◌≤◌, ◌⊎◌, ap, append_assoc, arith, Bool, eq-eqb, false, filter, inl, inr, length, length-append, List, map, nat_eq, nat_le, None, not, Ok, Option, refl, slice_index, Some, subst, sym, true, ℕ}
+use Rattle.std.proofs.Common.{[], append-nil, if◌then◌else◌, ◌++◌, ◌*◌, ◌+◌, ◌<◌, ◌^◌, ◌&&◌, ◌||◌, ◌∙◌, ◌∷◌, ◌≡◌, ◌≢◌, ◌≤◌, ◌⊎◌, ap, append_assoc, arith, Bool, eq-eqb, false, filter, inl, inr, length, length-append, List, map, nat_eq, nat_le, not, Ok, Option, refl, slice_index, Some, subst, sym, true, ℕ}
 use Rattle.std.proofs.lemmas.Bool.{cases_Bool, cond_both}
 use Rattle.std.proofs.lemmas.List.Elements.{All-head, All-tail, Contains-push}
 use Rattle.std.specs.List.{All, Contains, slice_get}
@@ -9,16 +9,18 @@ use Rattle.j39_transport.specs.Message.{MessageRecord, packets_of}
 use Rattle.j39_transport.specs.Sending as sending
 use Rattle.j39_transport.specs.Sending.{aborted, new_sender, send_step, SenderRecord, Tick}
 use Rattle.j39_transport.specs.Signals.{Acknowledgment, said_between, Signal}
-use Rattle.j39_node.proofs.MoveLemmas.{Arises, last_open, moved_open, Sent, sent_case, traced}
+use Rattle.j39_node.proofs.ChangeLemmas.{Sent, sent_case}
+use Rattle.j39_node.proofs.MoveLemmas.{Arises, heard_sender, left_sender, listed, moved_open, traced}
+use Rattle.j39_node.proofs.OpenLemmas.{open_told}
+use Rattle.j39_node.proofs.TransferEnds.{between, done_by, named_open, open_at}
+use Rattle.std.proofs.lemmas.Option.{same_Some}
 use Rattle.j39_node.proofs.MoveSteps.{done_given_up, done_heard, done_ticked, StateFits}
 use Rattle.j39_node.proofs.PacketLemmas.{goes_there}
-use Rattle.j39_node.proofs.PortLemmas.{hears_cases, ported, Ported}
-use Rattle.j39_node.proofs.QueueLemmas.{get_last, mapped_some}
+use Rattle.j39_node.proofs.QueueLemmas.{get_last}
 use Rattle.j39_node.proofs.SoundLemmas.{frame_case, stamped_by}
 use Rattle.j39_node.proofs.WithdrawLemmas.{get_front}
 use Rattle.j39_node.proofs.PromptLaws.{answered_from}
 use Rattle.j39_node.proofs.AnswerCases.{transfer_accepts}
-use Rattle.j39_node.proofs.TransferLaws.{Tells, tells}
 use Rattle.j39_node.proofs.Tests.{not_both}
 use Rattle.j39_node.specs.History.{address_after, broadcast_from, Call, frames, is_claim, is_lost, is_some, Message, Who}
 use Rattle.j39_node.specs.History.Call.{At, TakeTransferEnded}
@@ -27,9 +29,9 @@ use Rattle.j39_node.specs.Is.{AreAnswered}
 use Rattle.j39_node.specs.Moves.{begins, Happened, moves, NoneBegins}
 use Rattle.j39_node.specs.Prompt.{claims_anew}
 use Rattle.j39_node.specs.Reception.{delivered, holder, is_move, session}
-use Rattle.j39_node.specs.Transfers.{clock_at, ending_by, gives_up, is_replaced, open_transfer, Running, says, transfer_end, transfers}
-use Rattle.j39_node.specs.declared.kinds.TransferEnding.TheVariants.{Done}
-use Rattle.j39_node.specs.declared.kinds.TransferEnding.{TransferEnding}
+use Rattle.j39_node.specs.Transfers.{clock_at, open_to, says, transfers}
+use Rattle.j39_transfers.specs.Transfers.{gives_up, to as to_whom, Transfer as Running}
+use Rattle.j39_transfers.specs.declared.kinds.Ending.TheVariants.{Done}
 use Rattle.j39_net.proofs.AckLemmas.{acks, ends_later, EndsWhole, IsOfIt}
 use Rattle.j39_net.proofs.MoveCourse.{first_reply, Goes, its_reply, kind_of, MoveKind, parts_of}
 use Rattle.j39_net.proofs.ReportLemmas.{source_in, taken_at}
@@ -54,9 +56,9 @@ first_is (x ∷ bs) e = ap (λ (n : ℕ). (let o : Option ℕ = Some n in o)) e
 
 -- no frame of a transfer of its own is one
 no_move : (w : Who) (H : List Call) (now : ℕ) (f : FrameRecord) → AreAnswered w H → Sent w H now f → pgn_of f.id ≡ 60416 → slice_index f.bytes 0 ≡ 19 → ⊥
-no_move w H now f right s g z = go (kind_of s.running (clock_at H now) (moves w H) s.signal (moved_open w H s.running right s.is) s.said)
+no_move w H now f right s g z = go (kind_of s.running (clock_at w H now) (moves w (to_whom s.running) H) s.signal (moved_open w (to_whom s.running) H s.running right s.is) s.said)
   where
-    go : MoveKind s.running.sender.message (moves w H) s.signal → ⊥
+    go : MoveKind s.running.sender.message (moves w (to_whom s.running) H) s.signal → ⊥
     go (MoveKind.requests n e) = absurd (let x = ap (λ (m : Message). slice_index m.bytes 0) (s.frame ∙ ap (says s.running.sender) e) in omega (arith, x, z))
     go (MoveKind.packs i n k e) = absurd (let x = ap (λ (m : Message). m.group) (s.frame ∙ ap (says s.running.sender) e) in omega (arith, x, g))
     go (MoveKind.aborts reason n e) = absurd (let x = ap (λ (m : Message). slice_index m.bytes 0) (s.frame ∙ ap (says s.running.sender) e) in omega (arith, x, z))
@@ -87,48 +89,41 @@ abbrev pub IsAcked : Who → ℕ → MessageRecord → List Call → Call → Ty
 IsAcked w to m earlier (At now (Hear f)) = said_between to w.address f ≡ Some (Acknowledgment (length m.bytes) (packets_of m) m.pgn)
 IsAcked w to m earlier call = ⊥
 
-arises : (w : Who) → Arises w (λ t. t.sender.state ≡ sending.Done) (IsAcked w)
+arises : (w : Who) (a : ℕ) → Arises w a (λ x. x.sender.state ≡ sending.Done) (λ m. IsAcked w a m)
 unfolding new_sender
-arises w = record {
-  begins_not = λ token m to q. (let z : sending.Idle ≡ sending.Done = q in absurd (cc));
-  by_hearing = λ H when f t right e q.
-      hears_cases (λ (u : Running). u.sender.state ≡ sending.Done → (t.sender.state ≡ sending.Done) ⊎ IsAcked w t.sender.destination t.sender.message H (At when (Hear f)))
-      (is_lost (address_after w (At when (Hear f) ∷ H))) (is_replaced (holder w H t.sender.destination) (holder w (At when (Hear f) ∷ H) t.sender.destination)) f (clock_at H when) t
-      (λ q. inl q) (λ z q. inl q)
-      (λ z q. elim (done_heard t.sender f (clock_at H when) q) [
-        | inl x ↦ inl x
-        | inr x ↦ inr (ap (λ (n : ℕ). said_between t.sender.destination n f) (sym (subst (Ported w) e (ported w H right)).source) ∙ x.says)
-      ]) q;
-  by_sending = λ H now f t a right e g k q. inl (cond_both (gives_up t) (aborted 5 t.sender) (send_step t.sender Tick (clock_at H now)).after
-      (λ (r : SenderRecord). r.state ≡ sending.Done → t.sender.state ≡ sending.Done) (λ z. done_given_up t.sender 5) (λ z. done_ticked t.sender (clock_at H now)) q);
+arises w a = record {
+  begins_not = λ H now group bytes q. (let z : sending.Idle ≡ sending.Done = q in absurd (cc));
+  by_hearing = λ H when f x right e.
+      heard_sender (λ (s : SenderRecord). s.state ≡ sending.Done → (x.sender.state ≡ sending.Done) ⊎ IsAcked w a x.sender.message H (At when (Hear f)))
+      (is_lost (address_after w (At when (Hear f) ∷ H))) (holder w (At when (Hear f) ∷ H)) f (clock_at w H when) x (λ q. inl q)
+      (λ q. elim (done_heard x.sender f (clock_at w H when) q) [
+        | inl z ↦ inl z
+        | inr z ↦ inr ((λ i. said_between (sym (open_at w a H x e) i) (sym (between w a H x right e).source i) f) ∙ z.says)
+      ]);
+  by_claiming = λ H now f x right e q. inl (ap (λ (s : SenderRecord). s.state) (sym (left_sender (holder w (At now (TakeFrame (Some f)) ∷ H)) (clock_at w H now) x)) ∙ q);
+  by_sending = λ H now f s right z q. inl (cond_both (gives_up s.running) (aborted 5 s.running.sender) (send_step s.running.sender Tick (clock_at w H now)).after
+      (λ (r : SenderRecord). r.state ≡ sending.Done → s.running.sender.state ≡ sending.Done) (λ z. done_given_up s.running.sender 5) (λ z. done_ticked s.running.sender (clock_at w H now)) q);
 }
 
 pub record IsDone (w : Who) (H : List Call) (k : ℕ) : Type 0 where
   pub running : Running
-  pub is : open_transfer w H ≡ Some running
+  pub is : open_to w (to_whom running) H ≡ Some running
   pub token : running.token ≡ k
   pub state : running.sender.state ≡ sending.Done
-  pub acked : Happened (IsAcked w running.sender.destination running.sender.message) H
+  pub acked : Happened (to_whom running) (IsAcked w (to_whom running) running.sender.message) H
 
 pub told_done : (w : Who) (H : List Call) (k : ℕ) → AreAnswered w (TakeTransferEnded (Some (k, Done)) ∷ H) → IsDone w H k
-told_done w H k right = go (open_transfer w H) refl right.1
-  where
-    lost : Bool
-    lost = is_lost (address_after w H)
-
-    go : (o : Option Running) → open_transfer w H ≡ o → Some (k, Done) ≡ transfer_end o lost → IsDone w H k
-    go None i e = absurd (cc)
-    go (Some t) i e =
-        let x = mapped_some (λ (y : TransferEnding). (t.token, y)) (ending_by t.sender.state t.gone lost) (k, Done) (sym e) in
-        let ending : x.0 ≡ Done = ap (λ (u : ℕ × TransferEnding). u.1) x.2 in
-        let done : t.sender.state ≡ sending.Done = subst (Tells t.sender.state t.gone lost) (x.1 ∙ ap (λ (y : TransferEnding). (let o : Option TransferEnding = Some y in o)) ending) (tells t.sender.state t.gone lost) in
-        record {
-          running = t;
-          is = i;
-          token = ap (λ (u : ℕ × TransferEnding). u.0) x.2;
-          state = done;
-          acked = traced w (λ u. u.sender.state ≡ sending.Done) (IsAcked w) (arises w) H t right.0 i done;
-        }
+told_done w H k right =
+    let t = open_told w H (k, Done) right.1 in
+    let a = to_whom t.running in
+    let done = done_by t.running.sender.state t.running.broken (named_open w a H t.running right.0 t.is).broken t.ends in
+    record {
+      running = t.running;
+      is = t.is;
+      token = t.token;
+      state = done;
+      acked = traced w a (λ u. u.sender.state ≡ sending.Done) (λ m. IsAcked w a m) (arises w a) H t.running right.0 t.is done;
+    }
 
 -- ---- what is heard from an address was taken there
 
@@ -272,13 +267,13 @@ accepted_is w later earlier at group to k bytes right =
     ap (λ (T : List (ℕ × MessageRecord)). slice_get T k) r.1 ∙ get_front (transfers w earlier ++ x ∷ []) r.0 k x (ap (slice_get (transfers w earlier ++ x ∷ [])) n ∙ get_last (transfers w earlier) x)
 
 -- what happened since none was accepted, is behind this
-since_accepted : (later later2 earlier earlier2 : List Call) (x call : Call) → later ++ x ∷ earlier ≡ later2 ++ call ∷ earlier2 → begins x ≡ true → begins call ≡ false → NoneBegins later2
+since_accepted : (a : ℕ) (later later2 earlier earlier2 : List Call) (x call : Call) → later ++ x ∷ earlier ≡ later2 ++ call ∷ earlier2 → begins a x ≡ true → begins a call ≡ false → NoneBegins a later2
     → (mid : List Call) × (earlier2 ≡ mid ++ x ∷ earlier)
-since_accepted [] [] earlier earlier2 x call e b c n = absurd (let z : x ≡ call = cc in let y : true ≡ false = sym b ∙ (ap begins z ∙ c) in cc)
-since_accepted [] (y ∷ later2) earlier earlier2 x call e b c n = absurd (let z : x ≡ y = cc in let v : true ≡ false = sym b ∙ (ap begins z ∙ n.0) in cc)
-since_accepted (y ∷ later) [] earlier earlier2 x call e b c n = (later, (let z : later ++ x ∷ earlier ≡ earlier2 = cc in sym z))
-since_accepted (y ∷ later) (v ∷ later2) earlier earlier2 x call e b c n =
-    since_accepted later later2 earlier earlier2 x call (let z : later ++ x ∷ earlier ≡ later2 ++ call ∷ earlier2 = cc in z) b c n.1
+since_accepted a [] [] earlier earlier2 x call e b c n = absurd (let z : x ≡ call = cc in let y : true ≡ false = sym b ∙ (ap (begins a) z ∙ c) in cc)
+since_accepted a [] (y ∷ later2) earlier earlier2 x call e b c n = absurd (let z : x ≡ y = cc in let v : true ≡ false = sym b ∙ (ap (begins a) z ∙ n.0) in cc)
+since_accepted a (y ∷ later) [] earlier earlier2 x call e b c n = (later, (let z : later ++ x ∷ earlier ≡ earlier2 = cc in sym z))
+since_accepted a (y ∷ later) (v ∷ later2) earlier earlier2 x call e b c n =
+    since_accepted a later later2 earlier earlier2 x call (let z : later ++ x ∷ earlier ≡ later2 ++ call ∷ earlier2 = cc in z) b c n.1
 
 record Acked (w : Who) (H : List Call) (to : ℕ) (m : MessageRecord) : Type 0 where
   later : List Call
@@ -286,10 +281,10 @@ record Acked (w : Who) (H : List Call) (to : ℕ) (m : MessageRecord) : Type 0 w
   frame : FrameRecord
   earlier : List Call
   is : H ≡ later ++ At at (Hear frame) ∷ earlier
-  since : NoneBegins later
+  since : NoneBegins to later
   says : said_between to w.address frame ≡ Some (Acknowledgment (length m.bytes) (packets_of m) m.pgn)
 
-acked_at : (w : Who) (H : List Call) (to : ℕ) (m : MessageRecord) → Happened (IsAcked w to m) H → Acked w H to m
+acked_at : (w : Who) (H : List Call) (to : ℕ) (m : MessageRecord) → Happened to (IsAcked w to m) H → Acked w H to m
 acked_at w H to m h = go h.call h.is h.so
   where
     go : (call : Call) → H ≡ h.later ++ call ∷ h.earlier → IsAcked w to m h.earlier call → Acked w H to m
@@ -422,7 +417,7 @@ module _ (delay now i j k at group : ℕ) (bytes : List ℕ) (L : List Passed) (
 
   taken_for : OnlySends L j d → (is : m.history ≡ TakeTransferEnded (Some (k, Done)) ∷ H) → (x : Acked m.who H d b) → Came (λ f. said_between d a f ≡ Some (Acknowledgment (length b.bytes) (packets_of b) b.pgn))
   taken_for o is x =
-      let mid = since_accepted later x.later earlier x.earlier (At at (Transfer group d bytes (Ok k))) (At x.at (Hear x.frame)) x.is refl refl x.since in
+      let mid = since_accepted d later x.later earlier x.earlier (At at (Transfer group d bytes (Ok k))) (At x.at (Hear x.frame)) x.is (eq-eqb d d refl) refl x.since in
       let told = TakeTransferEnded (Some (k, Done)) in
       let whole : m.history ≡ (told ∷ x.later) ++ At x.at (Hear x.frame) ∷ x.earlier = behind_told m.history H x.later x.earlier told (At x.at (Hear x.frame)) is x.is in
       let time = behind_it m.since now x.at (Hear x.frame) (told ∷ x.later) x.earlier (subst (InTime m.since now) whole (net.in_time i m hm)) in
@@ -455,7 +450,7 @@ module _ (delay now i j k at group : ℕ) (bytes : List ℕ) (L : List Passed) (
 
   -- it was the last that was whole
   is_whole : i ≢ j → OnlySends L i a → All (λ call. claims_anew call ≡ false) n.history → All (λ (x : ℕ × MessageRecord). x.1.pgn < 2 ^ 18) (transfers m.who H)
-      → m.history ≡ TakeTransferEnded (Some (k, Done)) ∷ H → (x : IsDone m.who H k) → AreAnswered m.who H → x.running.sender.message ≡ b → x.running.sender.destination ≡ d
+      → m.history ≡ TakeTransferEnded (Some (k, Done)) ∷ H → (x : IsDone m.who H k) → AreAnswered m.who H → x.running.sender.message ≡ b → to_whom x.running ≡ d
       → EndsWhole (trace n.who a n.history) → Contains (map (λ x. x.1) (delivered n.who n.history)) b
   is_whole apart o anew fits is x right message destination ends =
       let c = coursed m.who d H (net.address i m hm) (net.address j n hn) fits right in
@@ -465,13 +460,16 @@ module _ (delay now i j k at group : ℕ) (bytes : List ℕ) (L : List Passed) (
       (subst (Course a d c.asked) (sym (ap frames is) ∙ e.is) c.course) (hears_transfers n.who a (net.address i m hm) n.history anew)).1 ends.0 ends.1 ends.2 in
       let whole : Contains (wholes a (delivered n.who n.history)) ends.1 =
       subst (λ W. Contains W ends.1) (sym (ap somes ends.2 ∙ somes_more ends.0 (Some ends.1 ∷ [])) ∙ wholes_are n.who a n.history) (Contains-push (somes ends.0) ends.1) in
-      subst (Contains (map (λ x. x.1) (delivered n.who n.history))) (requested c.asked last.0 ends.1 last.1 (c.current x.running x.is destination))
+      subst (Contains (map (λ x. x.1) (delivered n.who n.history))) (requested c.asked last.0 ends.1 last.1 (c.current x.running there))
       (contains_filter (λ (x : MessageRecord). nat_eq x.source a) (map (λ x. x.1) (delivered n.who n.history)) ends.1 whole)
     where
-      some_moves : moves m.who H ≢ []
-      some_moves = subst (StateFits (packets_of x.running.sender.message) x.running.sender.highest (moves m.who H)) x.state (moved_open m.who H x.running right x.is).state
+      there : open_to m.who d H ≡ Some x.running
+      there = ap (λ (n : ℕ). open_to m.who n H) (sym destination) ∙ x.is
 
-      requested : (A before : List MessageRecord) (y : MessageRecord) → A ≡ before ++ y ∷ [] → IsOpenAt (messages_to d (transfers m.who H)) A (moves m.who H) x.running.sender.message → y ≡ b
+      some_moves : moves m.who d H ≢ []
+      some_moves = subst (StateFits (packets_of x.running.sender.message) x.running.sender.highest (moves m.who d H)) x.state (moved_open m.who d H x.running right there).state
+
+      requested : (A before : List MessageRecord) (y : MessageRecord) → A ≡ before ++ y ∷ [] → IsOpenAt (messages_to d (transfers m.who H)) A (moves m.who d H) x.running.sender.message → y ≡ b
       requested A before y e (inl z) = absurd (some_moves z.0)
       requested A before y e (inr z) = (push_same before z.1 y x.running.sender.message (sym e ∙ z.2)).1 ∙ message
 
@@ -480,12 +478,12 @@ module _ (delay now i j k at group : ℕ) (bytes : List ℕ) (L : List Passed) (
   received apart o q anew fits is late =
       let right = subst (AreAnswered m.who) is (net.answered i m hm) in
       let x = told_done m.who H k right in
-      let same = ap (slice_get (transfers m.who H)) (sym x.token) ∙ (last_open m.who H x.running right.0 x.is).last in
-      let z : Some (d, b) ≡ Some (x.running.sender.destination, x.running.sender.message) = sym (accepted_is m.who later earlier at group d k bytes right.0) ∙ same in
-      let y : (d, b) ≡ (x.running.sender.destination, x.running.sender.message) = cc in
-      let to : d ≡ x.running.sender.destination = ap (λ (v : ℕ × MessageRecord). v.0) y in
+      let same = ap (slice_get (transfers m.who H)) (sym x.token) ∙ (listed m.who (to_whom x.running) H x.running right.0 x.is).at in
+      let z : Some (d, b) ≡ Some (to_whom x.running, x.running.sender.message) = sym (accepted_is m.who later earlier at group d k bytes right.0) ∙ same in
+      let y : (d, b) ≡ (to_whom x.running, x.running.sender.message) = same_Some _ _ z in
+      let to : d ≡ to_whom x.running = ap (λ (v : ℕ × MessageRecord). v.0) y in
       let message : b ≡ x.running.sender.message = ap (λ (v : ℕ × MessageRecord). v.1) y in
-      let taken = taken_for q is (acked_at m.who H d b (subst (λ v. Happened (IsAcked m.who d v) H) (sym message) (subst (λ v. Happened (IsAcked m.who v x.running.sender.message) H) (sym to) x.acked))) in
+      let taken = taken_for q is (acked_at m.who H d b (subst (λ v. Happened d (IsAcked m.who d v) H) (sym message) (subst (λ v. Happened v (IsAcked m.who v x.running.sender.message) H) (sym to) x.acked))) in
       is_whole apart o anew (subst (λ G. All (λ (x : ℕ × MessageRecord). x.1.pgn < 2 ^ 18) (transfers m.who G)) is fits) is x right.0 (sym message) (sym to)
       (ends taken (late taken.behind taken.before taken.moment taken.frame taken.is taken.said))
     where

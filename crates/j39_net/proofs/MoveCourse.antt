@@ -26,7 +26,8 @@ use Rattle.j39_node.proofs.ReceptionLemmas.{reply_of}
 use Rattle.j39_node.proofs.TransferLaws.{given_up}
 use Rattle.j39_node.specs.History.{Call, is_session, is_some, is_transfer, Message, message_of, Who}
 use Rattle.j39_node.specs.Reception.{events, is_move, is_that, reception, replies as all_replies, said_from}
-use Rattle.j39_node.specs.Transfers.{gives_up, is_spent, move, Running, signal_by}
+use Rattle.j39_node.specs.Transfers.{move}
+use Rattle.j39_transfers.specs.Transfers.{gives_up, is_spent, signal_by, Transfer as Running}
 use Rattle.j39_net.proofs.ReplyLemmas.{all_answer, IsAnswer}
 use Rattle.j39_net.proofs.BroadcastFacts.{same_names}
 use Rattle.j39_net.proofs.StepLemmas.{IsNoRts}
@@ -140,7 +141,7 @@ not_that t b e g = grind (arith, e, g)
 to_one : (d : ℕ) (o : Option ℕ) → d < 254 → o ≡ Some d → not (is_some o 255) ≡ true
 to_one d o l e = ap (λ (o : Option ℕ). not (is_some o 255)) e ∙ ap not (ne_eqb d 255 (λ z. absurd (omega (arith, l, z))))
 
--- so a frame that isn't of the open transfer is neither
+-- so a frame that isn't of a transfer is neither
 module _ (w : Who) (H : List Call) (f : FrameRecord) (d : ℕ) (small : d < 254) (other : is_move w H f ≡ false) where
   pub its_reply : ps_of f.id ≡ d → is_session f ≡ true → destination_of f.id ≡ Some (ps_of f.id) → is_that (message_of f) (slice_get (all_replies w H) 0) ≡ true
   its_reply p s g =
@@ -178,17 +179,17 @@ module _ (w : Who) (H : List Call) (f : FrameRecord) (d : ℕ) (small : d < 254)
       (λ p g z. (by_reply (its_reply p (ap (λ (n : ℕ). nat_eq n 60416 || nat_eq n 60160) g) (goes_there f 60416 (omega arith) g))).1 z)
       (λ p g. (let r = by_reply (its_reply p (ap (λ (n : ℕ). nat_eq n 60416 || nat_eq n 60160) g) (goes_there f 60160 (omega arith) g)) in absurd (let x = r.0 in omega (arith, x, g))))
 
--- ---- which frame of the open transfer
+-- ---- which frame of a transfer
 
 pub data MoveKind (m : MessageRecord) (xs : List Message) (a : Signal) : Type 0 where
   requests : xs ≡ [] → a ≡ request_of m → MoveKind m xs a
   packs : (i : ℕ) → xs ≢ [] → i ≤ packets_of m → a ≡ Packet i (packet_data m.bytes i) → MoveKind m xs a
   aborts : (reason : ℕ) → xs ≢ [] → a ≡ Abort reason m.pgn → MoveKind m xs a
 
-ticking : (t : Running) (now : ℕ) (a : Signal) → gives_up t ≡ false → signal_by t now ≡ Some a → (send_step t.sender Tick now).says ≡ Some a
+ticking : (t : Running) (now : ℕ) (a : Signal) → gives_up t ≡ false → signal_by now t ≡ Some a → (send_step t.sender Tick now).says ≡ Some a
 ticking t now a e f = grind (arith, e, f)
 
-pub kind_of : (t : Running) (now : ℕ) (xs : List Message) (a : Signal) → Moved t.sender xs → signal_by t now ≡ Some a → MoveKind t.sender.message xs a
+pub kind_of : (t : Running) (now : ℕ) (xs : List Message) (a : Signal) → Moved t.sender xs → signal_by now t ≡ Some a → MoveKind t.sender.message xs a
 kind_of t now xs a h e = go (gives_up t) refl
   where
     by : SignalCase t.sender xs a → MoveKind t.sender.message xs a

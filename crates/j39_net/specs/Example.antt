@@ -6,7 +6,7 @@ use Rattle.j39_node.specs.History.{message_of}
 use Rattle.j39_node.specs.History.Call.{At, ReleaseBroadcast, TakeBroadcastEnded, TakeReceived, TakeTransferEnded}
 use Rattle.j39_node.specs.History.Act.{Broadcast, Hear, Send, TakeFrame, Transfer}
 use Rattle.j39_node.specs.declared.kinds.Ending.TheVariants as ending
-use Rattle.j39_node.specs.declared.kinds.TransferEnding.TheVariants.{Done}
+use Rattle.j39_transfers.specs.declared.kinds.Ending.TheVariants.{Done}
 use Rattle.j39_net.specs.Net.{Member, Passed}
 
 -- NAME 3 claims address 128

@@ -21,7 +21,7 @@ use Rattle.j39_node.specs.Prompt.{claims_anew}
 use Rattle.j39_node.specs.Reception.{KeepsHolder}
 use Rattle.j39_node.specs.Since.{passed_in}
 use Rattle.j39_node.specs.Transfers.{next_transfer_ended}
-use Rattle.j39_node.specs.declared.kinds.TransferEnding.TheVariants.{Done}
+use Rattle.j39_transfers.specs.declared.kinds.Ending.TheVariants.{Done}
 
 -- a controller on the bus: for whom it was made or moved, its calls since then, the newest first, and from which moment on it is there
 pub record Member : Type 0 where

@@ -19,7 +19,7 @@ ghost use Rattle.j39_node.specs.Reception.{delivered, holder};
 ghost use Rattle.j39_node.specs.Times.{claim_time, packet_time};
 ghost use Rattle.j39_node.specs.Transfers.{transfers};
 ghost use Rattle.j39_node.specs.declared.kinds.Ending.TheVariants as end;
-ghost use Rattle.j39_node.specs.declared.kinds.TransferEnding.TheVariants as ending;
+ghost use Rattle.j39_transfers.specs.declared.kinds.Ending.TheVariants as ending;
 ghost use Rattle.j39_node.specs.Example.{announcement, nine, two};
 ghost use Rattle.j39_net.specs.Example.{both, first, pair, passed, receiver, second, sender, transferred};
 ghost use Rattle.j39_net.specs.Net.{ComesIn, Defends, InTime, IsAnnouncedAt, IsAsFar, IsDoneIn, IsLater, IsMember, IsNoClaim, IsNoneOf, IsNoRequest, IsPart, IsTimely, IsUnrivalled, IsWelcome, Member, Net, NoneAnew, NoneLate, OnlySends, Passed, done_by, log, messages_to, whole_since};

@@ -1,5 +1,5 @@
 -- What a call answers that accepts something: by whether the address is held, whether it may be sent, and whether there is no room.
-use Rattle.j39_node.proofs.Common.{arith, if◌then◌else◌, ◌||◌, ◌↔◌, ◌≡◌, List, Call, Draft, BadValue, Bool, Err, false, Full, IsTrue, NoAddress, Ok, refl, Refused, Result, true, Who, ℕ, answer_to_send, answer_to_ask, answer_to_broadcast, is_engaged, answer_to_transfer, can_ask, holds, open_transfer, can_send, is_full, can_broadcast, length, can_transfer, request_for, accepted, is_asking, is_busy, all_transfers, open_ask, broadcasts, is_resting}
+use Rattle.j39_node.proofs.Common.{arith, if◌then◌else◌, ◌||◌, ◌↔◌, ◌≡◌, List, Call, Draft, BadValue, Bool, Err, false, Full, IsTrue, NoAddress, Ok, refl, Refused, Result, true, Who, ℕ, answer_to_send, answer_to_ask, answer_to_broadcast, answer_to_transfer, can_ask, holds, can_send, is_full, can_broadcast, length, can_transfer, request_for, accepted, is_asking, is_busy, all_transfers, open_ask, broadcasts, is_refused_now, is_tried}
 
 abbrev pub answer_by : {T : Type 0} → Bool → Bool → Bool → T → Result T Refused
 answer_by a b f x = if a then (if b then (if f then Err Full else Ok x) else Err BadValue) else Err NoAddress
@@ -26,13 +26,18 @@ pub broadcast_accepts : (w : Who) (H : List Call) (now group k : ℕ) (bytes : L
     → Accepts (holds w H now) (can_broadcast group bytes) (is_busy w H) (length (broadcasts w H)) k
 broadcast_accepts w H now group k bytes e = accepts (holds w H now) (can_broadcast group bytes) (is_busy w H) (length (broadcasts w H)) k e
 
--- another transfer is open, there is no token, or it rests
-abbrev pub waits_for : Who → List Call → ℕ → ℕ → ℕ → Bool
-waits_for w H now group to = is_engaged (open_transfer w H) (length (all_transfers w H)) || is_resting w H now group to
-
 pub transfer_accepts : (w : Who) (H : List Call) (now group to k : ℕ) (bytes : List ℕ) → Ok k ≡ answer_to_transfer w H now group to bytes
-    → Accepts (holds w H now) (can_transfer w group to bytes) (waits_for w H now group to) (length (all_transfers w H)) k
-transfer_accepts w H now group to k bytes e = accepts (holds w H now) (can_transfer w group to bytes) (waits_for w H now group to) (length (all_transfers w H)) k e
+    → Accepts (holds w H now) (can_transfer w group to bytes) (is_refused_now w H now group to bytes) (length (all_transfers w H)) k
+transfer_accepts w H now group to k bytes e = accepts (holds w H now) (can_transfer w group to bytes) (is_refused_now w H now group to bytes) (length (all_transfers w H)) k e
+
+-- what is tried can be sent
+tried_by : (a b f : Bool) (k : ℕ) (r : Result ℕ Refused) (last : Bool) → r ≡ answer_by a b f k → is_tried r last ≡ true → b ≡ true
+tried_by a b f k r last e t = grind (arith, e, t)
+
+pub transfer_tried : (w : Who) (H : List Call) (now group to : ℕ) (bytes : List ℕ) (r : Result ℕ Refused) (last : Bool) → r ≡ answer_to_transfer w H now group to bytes
+    → is_tried r last ≡ true → can_transfer w group to bytes ≡ true
+transfer_tried w H now group to bytes r last e t =
+    tried_by (holds w H now) (can_transfer w group to bytes) (is_refused_now w H now group to bytes) (length (all_transfers w H)) r last e t
 
 -- it is, where nothing stands against it
 pub is_accepted : {T : Type 0} (a b f : Bool) (x : T) (answer : Result T Refused) → answer ≡ answer_by a b f x → IsTrue a → IsTrue b → (f ≡ true → ⊥) → answer ≡ Ok x

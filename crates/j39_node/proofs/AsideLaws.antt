@@ -1,5 +1,5 @@
 -- Which frame others exchange makes no difference to any answer, whatever comes later.
-use Rattle.j39_node.proofs.Common.{all_replies, events, [], accepted, Acknowledge, acknowledged, acknowledgment, Address, address_after, AddressLost, Again, age, all_replies, and-false, announces, another_news, AnotherAtAddress, ap, AreAnswered, arith, Ask, ask_end, Asked, asked, AskEnding, At, begun, blank, Bool, Broadcast, broadcast_end, broadcast_from, broadcasts, by, Call, called, called_for, Calling, calls_for_claim, calls_whom, can_ask, can_broadcast, can_send, can_transfer, claim_address, claim_from, claim_of, claimed, claimed_again, clock, comes, control_of, delayed, destination_of, double, doubled_news, drop, due, end_at, end_of, ended, Ending, events, false, false_from_ne_true, first, found_in, FrameRecord, fresh, got, handed, has_token, Hear, heard_at, hears_if, hears_in, held_then, holder, holds, holds_back, if_heard, if◌then◌else◌, is_acknowledgment, is_another, is_any, is_apart, is_asking, is_claim, is_coming, is_engaged, is_for_program, is_held, is_left, is_lost, is_message, is_open, is_packet, is_refusal_due, is_replaced, is_reply, is_session, is_smaller, is_that, is_there, is_transfer, is_unheard_in, IsAnswered, IsAside, joined, kept, later, latest, leaves, length, List, Listening, listening, Lost, lost_news, made, made_in, made_in_sessions, made_of, marks, max, may_go, Message, message_from, message_of, MessageRecord, MessagesMissed, missed_news, moment, NameDoubled, nat_eq, nat_le, nat_lt, news_of, None, not, of_other, Ok, older, open_ask, open_broadcast, open_transfer, OpenBroadcast, Option, option_map, option_or, or-false, over_by, owes_claim, packet_by, packets, packs, past, patience, pause, pgn_of, ps_of, Question, question, reached, Ready, reception, refl, ReleaseBroadcast, ReleaseTransfer, Renew, replies_of, request_for, requests, rest, Resting, resting, rests_after, Running, Send, sends_if, SessionsRecord, silent_end, slice_get, slice_set, Some, source_of, stamped, staying, step, subst, suc, sym, TakeAskEnded, TakeBroadcastEnded, TakeEnded, TakeFrame, taken_whom, TakeNews, TakeReceived, TakeRequest, takes_in, TakeTransferEnded, those_over, Tick, time_heard, told, Transfer, transfer_by, transfer_end, transfers, transport_control_group, true, turn_frame, turn_of, turns, unheard_news, wait, waned, Who, with_refusal, with_request, Withdraw, yields, ℕ, ◌&&◌, ◌*◌, ◌++◌, ◌+◌, ◌-◌, ◌||◌, ◌↔◌, ◌∙◌, ◌∷◌, ◌≡◌, ◌≢◌}
+use Rattle.j39_node.proofs.Common.{all_replies, events, [], accepted, Acknowledge, acknowledged, acknowledgment, Address, address_after, AddressLost, Again, age, all_replies, and-false, announces, another_news, AnotherAtAddress, ap, AreAnswered, arith, Ask, ask_end, Asked, asked, AskEnding, At, blank, Bool, Broadcast, broadcast_end, broadcast_from, broadcasts, by, Call, called, called_for, Calling, calls_for_claim, calls_whom, can_ask, can_broadcast, can_send, can_transfer, claim_address, claim_from, claim_of, claimed, claimed_again, clock, comes, control_of, delayed, destination_of, double, doubled_news, drop, due, end_at, end_of, ended, Ending, events, false, false_from_ne_true, first, found_in, FrameRecord, fresh, got, handed, has_token, Hear, heard_at, hears_in, held_then, holder, holds, if_heard, if◌then◌else◌, is_acknowledgment, is_another, is_any, is_apart, is_asking, is_claim, is_coming, is_for_program, is_held, is_left, is_lost, is_message, is_open, is_packet, is_refusal_due, is_reply, is_session, is_smaller, is_that, is_there, is_transfer, is_unheard_in, IsAnswered, IsAside, kept, later, latest, leaves, length, List, Listening, listening, Lost, lost_news, made, made_in, made_in_sessions, made_of, marks, max, may_go, Message, message_from, message_of, MessageRecord, MessagesMissed, missed_news, moment, NameDoubled, nat_eq, nat_le, nat_lt, news_of, None, not, of_other, Ok, older, open_ask, open_broadcast, OpenBroadcast, Option, option_map, option_or, or-false, over_by, owes_claim, packet_by, packets, packs, past, patience, pause, pgn_of, ps_of, Question, question, reached, Ready, reception, refl, ReleaseBroadcast, ReleaseTransfer, Renew, replies_of, request_for, requests, Send, SessionsRecord, silent_end, slice_get, slice_set, Some, source_of, stamped, staying, step, subst, suc, sym, TakeAskEnded, TakeBroadcastEnded, TakeEnded, TakeFrame, taken_whom, TakeNews, TakeReceived, TakeRequest, takes_in, TakeTransferEnded, those_over, Tick, time_heard, told, Transfer, transfers, transport_control_group, true, turn_frame, turn_of, turns, unheard_news, wait, waned, Who, with_refusal, with_request, Withdraw, yields, ℕ, ◌&&◌, ◌*◌, ◌++◌, ◌+◌, ◌-◌, ◌||◌, ◌↔◌, ◌∙◌, ◌∷◌, ◌≡◌, ◌≢◌, transfers_at, TransfersRecord, carried_by, said, order, is_tried, Err, is_move, clock_at, taken_events, tried_events, transfer_events}
 use Rattle.j39_transport.specs.Frames as frames
 use Rattle.j39_transport.proofs.FrameFacts.{announcement_facts}
 use Rattle.j39_node.proofs.AnswerCases.{answer_by}
@@ -10,6 +10,10 @@ use Rattle.j39_node.proofs.ReceptionLaws.{to_others}
 use Rattle.j39_node.proofs.PacketLemmas.{goes_there}
 use Rattle.j39_sessions.specs.Sessions.{releases, ticks as sessions_tick}
 use Rattle.j39_node.proofs.RequestStrangers.{to_another}
+use Rattle.j39_node.proofs.CallLemmas.{transfers_heard}
+use Rattle.j39_transfers.specs.Events.{after as transfers_after, Begins}
+use Rattle.j39_transfers.specs.Transfers.{answer as transfers_answer, awake, begins as transfers_begin, hears as transfers_hear, leaves as transfers_leave, loses as transfers_lose, sends as transfers_send, tells as transfers_tell, told as ended_told}
+use Rattle.std.specs.Result.{is_ok}
 use Rattle.j39_node.proofs.StrangerLaws.{open_stays}
 use Rattle.j39_node.proofs.ReceptionLemmas.{taken_from, taken_in, taken_is_from, unclaimed_known}
 use Rattle.j39_node.proofs.PromptLaws.{answered_from as before}
@@ -53,9 +57,7 @@ record State : Type 0 where
   pub wait : ℕ
   pub ended : Option AskEnding
   pub age : ℕ
-  pub rest : ℕ
-  pub resting : Resting
-  pub transfer : Option Running
+  pub port : TransfersRecord
   pub transfers : List (ℕ × MessageRecord)
 
 abbrev state : Who → List Call → State
@@ -95,10 +97,8 @@ state w H = record {
   ask = open_ask H;
   wait = wait H;
   ended = ended w H;
-  age = age H;
-  rest = rest w H;
-  resting = resting w H;
-  transfer = open_transfer w H;
+  age = age w H;
+  port = transfers_at w H;
   transfers = transfers w H;
 }
 
@@ -113,7 +113,6 @@ passes now s = record s {
   pause = s.pause - (now - s.moment);
   wait = s.wait - (now - s.moment);
   age = s.age + (now - s.moment);
-  rest = s.rest - (now - s.moment);
 }
 
 -- an answer is coming
@@ -150,7 +149,8 @@ hears_with w when f a held time holds ends found r s = record (passes when s) {
       (end_at w s.ask (s.reached) (s.wait - (when - s.moment)) (comes_at time s) (is_lost a) f
       (option_or (made_of (if_heard (is_smaller w (claim_of f)) held (made_in_sessions time f r)))
       (made_of (option_map (λ (x : ℕ × MessageRecord). x.1) (made_in w.boxes w (holds (source_of f.id)) time f found)))));
-  transfer = hears_if (is_lost a) (λ b. is_replaced (s.holder b) (holds b)) f (clock (s.age + (when - s.moment))) s.transfer;
+  port = if is_lost a then transfers_lose (clock (s.age + (when - s.moment))) s.port
+      else transfers_hear f (clock (s.age + (when - s.moment))) (transfers_leave None holds (clock (s.age + (when - s.moment))) s.port);
 }
 
 abbrev heard : Who → ℕ → FrameRecord → State → State
@@ -177,7 +177,8 @@ takes_with now f holds s = record (passes now s) {
   reception = taken_from (is_claim f) (is_reply (replies_of s.reception) f) holds s.reception;
   unheard = (is_any (if is_claim f then those_over None holds s.time s.hearing.current else []) || false) || s.unheard;
   hearing = if is_claim f then staying None holds s.time s.hearing else s.hearing;
-  transfer = sends_if (is_transfer f && not (is_that (message_of f) (slice_get (replies_of s.reception) 0))) (clock (s.age + (now - s.moment))) s.transfer;
+  port = if is_claim f then transfers_leave None holds (clock (s.age + (now - s.moment))) s.port
+      else if is_transfer f && not (is_that (message_of f) (slice_get (replies_of s.reception) 0)) then transfers_send (clock (s.age + (now - s.moment))) s.port else s.port;
 }
 
 abbrev next : Who → Call → State → State
@@ -206,10 +207,10 @@ next w (At now (Broadcast group bytes (Ok k))) s = record (passes now s) {
   packets = [];
   pause = max 100000 (s.pause - (now - s.moment));
 }
-next w (At now (Transfer group to bytes (Ok k))) s = record (passes now s) {
-  transfers = s.transfers ++ (to, broadcast_from w group bytes) ∷ [];
-  transfer = Some (begun k (broadcast_from w group bytes) to);
-  age = 0;
+next w (At now (Transfer group to bytes answer)) s = record (passes now s) {
+  transfers = if is_ok answer then s.transfers ++ (to, broadcast_from w group bytes) ∷ [] else s.transfers;
+  port = if is_tried answer (nat_eq (length s.transfers) 18446744073709551615)
+      then transfers_begin (order (length s.transfers) group to bytes) (s.holder to) (clock (s.age + (now - s.moment))) s.port else s.port;
 }
 next w (Withdraw k true) s = record s {
   accepted = slice_set s.accepted k (k, blank);
@@ -225,16 +226,24 @@ next w (TakeNews (Some AnotherAtAddress)) s = record s { another = false }
 next w (TakeNews (Some (NameDoubled a))) s = record s { doubled = None }
 next w (TakeNews (Some MessagesMissed)) s = record s { missed = false; unheard = false }
 next w (TakeBroadcastEnded (Some x)) s = record s { broadcast = None }
-next w (TakeTransferEnded (Some x)) s = record s {
-  transfer = None;
-  rest = if rests_after x.1 then 4000000 else s.rest;
-  resting = if rests_after x.1 then joined s.rest s.resting s.transfer else s.resting;
-}
+next w (TakeTransferEnded (Some x)) s = record s { port = transfers_tell s.port }
 next w (TakeAskEnded (Some x)) s = record s { ask = None }
 next w (ReleaseTransfer true) s = record s { reception = releases s.reception }
 next w (ReleaseBroadcast true) s = record s { hearing = record { current = s.hearing.current; waits = drop 1 s.hearing.waits } }
 next w (At now act) s = passes now s
 next w call s = s
+
+transfers_took : (w : Who) (H : List Call) (now : ℕ) (b m : Bool) (who : ℕ → Option ℕ) → transfers_after 0 w.transfers (taken_events b m (clock_at w H now) who (transfer_events w H))
+    ≡ (if b then transfers_leave None who (clock_at w H now) (transfers_at w H) else if m then transfers_send (clock_at w H now) (transfers_at w H) else transfers_at w H)
+transfers_took w H now true m who = refl
+transfers_took w H now false true who = refl
+transfers_took w H now false false who = refl
+
+transfers_try : (w : Who) (H : List Call) (now group to : ℕ) (bytes : List ℕ) (b : Bool)
+    → transfers_after 0 w.transfers (tried_events b (Begins (order (length (transfers w H)) group to bytes) (holder w H to) (clock_at w H now)) (transfer_events w H))
+    ≡ (if b then transfers_begin (order (length (transfers w H)) group to bytes) (holder w H to) (clock_at w H now) (transfers_at w H) else transfers_at w H)
+transfers_try w H now group to bytes true = refl
+transfers_try w H now group to bytes false = refl
 
 state_is : (w : Who) (call : Call) (H : List Call) → state w (call ∷ H) ≡ next w call (state w H)
 state_is w (At now (TakeFrame None)) H = refl
@@ -242,7 +251,12 @@ state_is w (At now (Send d (Ok k))) H = refl
 state_is w (At now (Ask group to (Ok k))) H = refl
 state_is w (At now (Acknowledge r a (Ok x))) H = refl
 state_is w (At now (Broadcast group bytes (Ok k))) H = refl
-state_is w (At now (Transfer group to bytes (Ok k))) H = refl
+state_is w (At now (Transfer group to bytes (Ok k))) H = λ i. record (next w (At now (Transfer group to bytes (Ok k))) (state w H)) {
+  port = transfers_try w H now group to bytes (is_tried (Ok k) (nat_eq (length (transfers w H)) 18446744073709551615)) i;
+}
+state_is w (At now (Transfer group to bytes (Err x))) H = λ i. record (next w (At now (Transfer group to bytes (Err x))) (state w H)) {
+  port = transfers_try w H now group to bytes (is_tried (Err x) (nat_eq (length (transfers w H)) 18446744073709551615)) i;
+}
 state_is w (Withdraw k false) H = refl
 state_is w (Renew d None) H = refl
 state_is w (TakeEnded None) H = refl
@@ -256,9 +270,14 @@ state_is w (TakeBroadcastEnded None) H = refl
 state_is w (TakeTransferEnded None) H = refl
 state_is w (TakeAskEnded None) H = refl
 state_is w (ReleaseBroadcast false) H = refl
-state_is w (At when (Hear f)) H = λ i. record (next w (At when (Hear f)) (state w H)) { reception = sym (taken_in w H when f (is_smaller w (claim_of f)) (holds w H when)) i }
-state_is w (At now (TakeFrame (Some f))) H = λ i. record (next w (At now (TakeFrame (Some f))) (state w H))
-    { reception = taken_is_from w (events w H) (holder w (At now (TakeFrame (Some f)) ∷ H)) (is_claim f) (is_reply (all_replies w H) f) i }
+state_is w (At when (Hear f)) H = λ i. record (next w (At when (Hear f)) (state w H)) {
+  reception = sym (taken_in w H when f (is_smaller w (claim_of f)) (holds w H when)) i;
+  port = sym (transfers_heard w H (is_lost (address_after w (At when (Hear f) ∷ H))) (clock_at w H when) (holder w (At when (Hear f) ∷ H)) f) i;
+}
+state_is w (At now (TakeFrame (Some f))) H = λ i. record (next w (At now (TakeFrame (Some f))) (state w H)) {
+  reception = taken_is_from w (events w H) (holder w (At now (TakeFrame (Some f)) ∷ H)) (is_claim f) (is_reply (all_replies w H) f) i;
+  port = transfers_took w H now (is_claim f) (is_move w H f) (holder w (At now (TakeFrame (Some f)) ∷ H)) i;
+}
 state_is w (ReleaseTransfer false) H = refl
 state_is w call H = refl
 
@@ -270,7 +289,7 @@ holds_at s now = is_held (older (now - s.moment) s.address)
 abbrev frame_by : Who → State → ℕ → Option (ℕ × Message)
 frame_by w s now =
     let left = s.pause - (now - s.moment) in
-    let transfer = transfer_by s.transfer (clock (s.age + (now - s.moment))) in
+    let transfer = option_map carried_by (said (clock (s.age + (now - s.moment))) s.port) in
     let due : Ready = record {
       overdue = is_left s.broadcast (length s.packets) && nat_eq left 0;
       reply = nat_lt 0 (length (replies_of s.reception));
@@ -306,8 +325,8 @@ Answers w s (TakeBroadcastEnded answer) = answer ≡ broadcast_end s.broadcast (
 Answers w s (ReleaseTransfer answer) = answer ≡ nat_lt 0 (length s.reception.waits)
 Answers w s (At now (Transfer group to bytes answer)) =
     answer ≡ answer_by (holds_at s now) (can_transfer w group to bytes)
-    (is_engaged s.transfer (length s.transfers) || (nat_lt 0 (s.rest - (now - s.moment)) && holds_back s.resting group to)) (length s.transfers)
-Answers w s (TakeTransferEnded answer) = answer ≡ transfer_end s.transfer (is_lost s.address)
+    (nat_eq (length s.transfers) 18446744073709551615 || not (is_ok (transfers_answer (order (length s.transfers) group to bytes) (awake (clock (s.age + (now - s.moment))) s.port)))) (length s.transfers)
+Answers w s (TakeTransferEnded answer) = answer ≡ ended_told s.port
 Answers w s (At now (Ask group to answer)) = answer ≡ answer_by (holds_at s now) (can_ask w group to) (full_by s || is_asking s.ask) (length s.accepted)
 Answers w s (TakeAskEnded answer) = answer ≡ ask_end s.ask (s.reached) s.ended s.wait (comes_at s.time s) (is_lost s.address)
 Answers w s (ReleaseBroadcast answer) = answer ≡ nat_lt 0 (length s.hearing.waits)
@@ -416,7 +435,7 @@ module _ (w : Who) (f : FrameRecord) (a : IsAside w f) where
         reception = (to_others w H when f mine (λ b x z. unclaimed_known w H when f b a.claims) (elsewhere w.address a.not_here)) i;
         hearing = hearing_laws.strangers w H when f a.claims unannounced unpacked i;
         ended = ends i;
-        transfer = open_stays w H when f right a.claims (elsewhere w.address a.not_here) i;
+        port = open_stays w H when f right a.claims (elsewhere w.address a.not_here) i;
       }
     where
       held : Bool

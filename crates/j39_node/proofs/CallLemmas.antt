@@ -2,7 +2,7 @@
 use Rattle.std.proofs.lemmas.Grind.{common_steps}
 use Rattle.j39_node.proofs.KindLemmas.{Kind, kind, kind_by, kind_is, single}
 use Rattle.j39_node.proofs.SoundLemmas.FrameCase.{claims as claims_first, acknowledges, replies, sends, packs, transfers}
-use Rattle.j39_node.proofs.Common.{made_of, whole, MessageRecord, [], accepted, acknowledged, Address, address_after, after, age, all_replies, all_transfers, ap, AreAnswered, arith, Asked, asked_by, asked_whom, asking_of, AskRecord, At, at_in, blank, Bool, Call, called, called_for, calls, can_claim, can_send, claim_address, claim_due, claim_from, claim_goes, claim_of, claimed, Claims, claims, clock, clock_at, comes, cond_some, Controller, counted, delayed, Done, Draft, drop, drop-append-le, drop-map, Due, due, end_of, ended, Ending, ending_of, events, false, first, found_by_frame, FrameRecord, gives_way, got, has_packets, has_token, Hear, heard_at, hearing_after, hearing_of, held_at, Hold, hold_acknowledged, hold_after, hold_asked, hold_claimed, hold_spoken, hold_went, holder, holder_in, holds, holds_back, if_heard, IfSome, if◌then◌else◌, Incoming, incoming_after, incoming_of, inl, inr, Is, is_apart, is_asking, is_blank, is_busy, is_claim, is_coming, is_engaged, is_for_program, is_full, is_held, is_left, is_lost, is_open, is_resting, is_served, is_smaller, is_there, is_turn, IsAnswered, IsOthers, kept, Knows, lane_after, lane_of, latest, le-ltb, leaves, leb-true, led, left_at, length, length-drop, length-map, length-set, less, List, Lost, lost, lt-ltb, ltb-false, ltb-true, made_in_sessions, map, map-append, marks, max, may_claim, may_go, Message, message_from, message_of, min, missed_news, moment, more, Move, nat_eq, nat_le, nat_lt, news_after, next_acknowledgment, next_due, next_frame, next_packet, next_renewed, next_transfer, next_transfer_ended, next_turn, next_withdrawn, None, not, nothing, offered, older, open_ask, open_transfer, Option, option_map, other, Outgoing, owes_claim, packet_by, packets, packets_in, passed, past, pause, paused, place_of, port_after, port_of, posted, reached, Ready, ready_in, refl, refusal_by, Renew, Renews, replies_of, Reply, resting_by, senders, sends_if, sessions_after, Single, slice_get, slice_get_past, slice_get_within, slice_set, Some, sooner, source_of, stamp_at, stamped, standing_of, stands, step, subst, suc, sym, TakeEnded, TakeFrame, taken_by, taken_whom, those_over, time_heard, told, told_claims, transfer_by, transfer_end, transfer_in, true, turn_frame, turn_of, turns, unclaimed, unclaims, unheard_news, Untold, View, view, wait, Who, who_of, with_called, with_reception, with_refusal, with_request, Withdraw, Withdrawn, yields, ℕ, ◌&&◌, ◌++◌, ◌+◌, ◌-◌, ◌<◌, ◌||◌, ◌∙◌, ◌∷◌, ◌≡◌, ◌≤◌, passed_to, later}
+use Rattle.j39_node.proofs.Common.{made_of, whole, MessageRecord, [], accepted, acknowledged, Address, address_after, after, age, all_replies, all_transfers, ap, AreAnswered, arith, Asked, asked_by, asked_whom, asking_of, AskRecord, At, at_in, blank, Bool, Call, called, called_for, calls, can_claim, can_send, claim_address, claim_due, claim_from, claim_goes, claim_of, claimed, Claims, claims, clock, clock_at, comes, cond_some, Controller, counted, delayed, Done, Draft, drop, drop-append-le, drop-map, Due, due, end_of, ended, Ending, ending_of, events, false, first, found_by_frame, FrameRecord, gives_way, got, has_packets, has_token, Hear, heard_at, hearing_after, hearing_of, held_at, Hold, hold_acknowledged, hold_after, hold_asked, hold_claimed, hold_spoken, hold_went, holder, holder_in, holds, if_heard, IfSome, if◌then◌else◌, Incoming, incoming_after, incoming_of, inl, inr, Is, is_apart, is_asking, is_blank, is_busy, is_claim, is_coming, is_for_program, is_full, is_held, is_left, is_lost, is_open, is_served, is_smaller, is_there, is_turn, IsAnswered, IsOthers, kept, Knows, lane_after, lane_of, latest, le-ltb, leaves, leb-true, led, left_at, length, length-drop, length-map, length-set, less, List, Lost, lost, lt-ltb, ltb-false, ltb-true, made_in_sessions, map, map-append, marks, max, may_claim, may_go, Message, message_from, message_of, min, missed_news, moment, more, Move, nat_eq, nat_le, nat_lt, news_after, next_acknowledgment, next_due, next_frame, next_packet, next_renewed, next_transfer, next_transfer_ended, next_turn, next_withdrawn, None, not, nothing, offered, older, open_ask, Option, option_map, other, Outgoing, owes_claim, packet_by, packets, packets_in, passed, past, pause, paused, place_of, port_after, port_of, posted, reached, Ready, ready_in, refl, refusal_by, Renew, Renews, replies_of, Reply, senders, sessions_after, Single, slice_get, slice_get_past, slice_get_within, slice_set, Some, sooner, source_of, stamp_at, stamped, standing_of, stands, step, subst, suc, sym, TakeEnded, TakeFrame, taken_by, taken_whom, those_over, time_heard, told, told_claims, true, turn_frame, turn_of, turns, unclaimed, unclaims, unheard_news, Untold, View, view, wait, Who, who_of, with_called, with_reception, with_refusal, with_request, Withdraw, Withdrawn, yields, ℕ, ◌&&◌, ◌++◌, ◌+◌, ◌-◌, ◌<◌, ◌||◌, ◌∙◌, ◌∷◌, ◌≡◌, ◌≤◌, passed_to, later, carried_by, said, soonest, taken_events, transfer_events, transfers_at, is_over, Running, TransfersRecord, TransferEnding, append-nil, has_some, order, Transfer, Result, Refused, Ok, Err, Full, tried_events, heard_events, is_tried, broadcast_from, TakeTransferEnded}
 use Rattle.j39_node.specs.Boxes.{in_box}
 use Rattle.j39_node.specs.Is.{leaving}
 use Rattle.j39_node.specs.Reception.{is_waiting}
@@ -18,7 +18,12 @@ use Rattle.j39_node.proofs.HearingLemmas.{claimed_on, claimed_says, hearing_same
 use Rattle.j39_node.proofs.QueueLemmas.{length_one_more, length_rest, First, get_at, get_map, get_of_drop, rest_at, mapped_none}
 use Rattle.j39_node.proofs.SoundLemmas.{FrameCase, case_goes, next_is, IsTurn, frame_there, packet_there, some_at, turn_is, sound, held_not_lost, holding_not_lost, lost_older, Sound, withdraw_case, acknowledged_is_due, not_there, other_is}
 use Rattle.j39_node.proofs.FrameLemmas.{at_now}
-use Rattle.j39_node.proofs.PortLemmas.{clock_is, is_port}
+use Rattle.j39_node.proofs.PortLemmas.{clock_is}
+use Rattle.j39_transfers.specs.Events.{after as transfers_after, Begins, Moves}
+use Rattle.j39_transfers.specs.Transfers.{begins as transfers_begin, end_by, ending, hears as transfers_hear, leaves as transfers_leave, loses as transfers_lose, none_of as no_transfers, listed as listed_rests, rest_by, sends as transfers_send, tells as transfers_tell}
+use Rattle.j39_transfers.proofs.LawLemmas.{found_passes, others_none}
+use Rattle.std.specs.List.{find}
+use Rattle.std.specs.Result.{is_ok}
 use Rattle.j39_node.proofs.RenewLemmas.{latest_rest, latest_is, set_rest}
 
 -- ---- the hold
@@ -40,7 +45,7 @@ saturates a s = omega arith
 
 pub passed_is : (w : Who) (H : List Call) (now : ℕ) (old new : Hold) → old ≡ hold_after w H → new ≡ passed now old → Passed w H now new
 passed_is w H now old new e f =
-    f ∙ (ap (passed now) e ∙ λ i. record (led w H now) { standing = less_is (step H now) (address_after w H) i; age = saturates (age H) (step H now) i })
+    f ∙ (ap (passed now) e ∙ λ i. record (led w H now) { standing = less_is (step H now) (address_after w H) i; age = saturates (age w H) (step H now) i })
 
 pub holds_is : (w : Who) (H : List Call) (now : ℕ) (h : Hold) (b : Bool) → Passed w H now h → b ≡ stands h.standing → b ≡ holds w H now
 holds_is w H now h b p e = e ∙ (ap stands (ap (λ (k : Hold). k.standing) p) ∙ stands_is (older (step H now) (address_after w H)))
@@ -87,7 +92,7 @@ framed w H now f k =
         called = called_for (1250000 + (now - heard_at H)) (taken_whom k.claim (not (k.claim || (k.acknowledgment || k.session))) f) (called w H);
         reception = sessions_after w (taken_by k.claim k.reply (holder w G) (events w H));
       };
-      port = record (port_after w H) { current = sends_if k.move (clock_at H now) (open_transfer w H) };
+      port = record (port_after w H) { state = transfers_after 0 w.transfers (taken_events k.claim k.move (clock_at w H now) (holder w G) (transfer_events w H)) };
     }
 
 -- one that is no claim leaves what is heard
@@ -149,9 +154,10 @@ made_heard w H old when f table made gone held h knows away stays does =
     source_and_group None = refl
     source_and_group (Some m) = refl
 
-pub transfer_next : (w : Who) (H : List Call) (c : Controller) (now time : ℕ) → Is w H c → time ≡ min (age H + step H now) 18446744073709551615
-    → transfer_by (port_of c.transfers).current (clock time) ≡ next_transfer w H now
-transfer_next w H c now time e f = grind (arith, f)
+pub transfer_next : (w : Who) (H : List Call) (c : Controller) (now time : ℕ) → Is w H c → time ≡ min (age w H + step H now) 18446744073709551615
+    → option_map carried_by (said (clock time) (port_of c.transfers).state) ≡ next_transfer w H now
+transfer_next w H c now time e f =
+    (λ i. option_map carried_by (said (clock (f i)) (e.shown i).port.state)) ∙ ap (λ (n : ℕ). option_map carried_by (said n (transfers_at w H))) (clock_is (age w H + step H now))
 
 -- ---- a frame is taken
 
@@ -298,11 +304,11 @@ taken_packet w H old new now f mid h o turn m e e0 e1 more =
 
 pub taken_transfer : (w : Who) (H : List Call) (old new : Controller) (now : ℕ) (f : FrameRecord) (mid : Hold) → Is w H old
     → IsOthers w H now mid → turn_of mid.yields (ready_in old mid) ≡ Some Move
-    → Some (stamped f) ≡ option_map (at_now now) (transfer_by (port_of old.transfers).current (clock mid.age))
+    → Some (stamped f) ≡ option_map (at_now now) (option_map carried_by (said (clock mid.age) (port_of old.transfers).state))
     → new ≡ record old { hold = new.hold; transfers = new.transfers }
-    → (port_of new.transfers).current ≡ sends_if true (clock mid.age) (port_of old.transfers).current → new.transfers.next_token ≡ old.transfers.next_token
-    → new.transfers.resting ≡ old.transfers.resting → new.hold ≡ hold_went mid → Is w (At now (TakeFrame (Some f)) ∷ H) new
-taken_transfer w H old new now f mid h o turn u e e0 e1 e2 e3 =
+    → (port_of new.transfers).state ≡ transfers_send (clock mid.age) (port_of old.transfers).state → new.transfers.next_token ≡ old.transfers.next_token
+    → new.hold ≡ hold_went mid → Is w (At now (TakeFrame (Some f)) ∷ H) new
+taken_transfer w H old new now f mid h o turn u e e0 e1 e3 =
     go (next_transfer w H now) refl (u ∙ ap (option_map (at_now now)) (transfer_next w H old now mid.age h (ap (λ (k : Hold). k.age) o.passed)))
   where
     go : (o : Option Message) → next_transfer w H now ≡ o → Some (stamped f) ≡ option_map (at_now now) o → Is w (At now (TakeFrame (Some f)) ∷ H) new
@@ -312,9 +318,10 @@ taken_transfer w H old new now f mid h o turn u e e0 e1 e2 e3 =
         frames (transfers y o.owes o.held (o.none, sym (turn_next w H old now mid h o.passed o.held) ∙ turn) q k) h (ap (λ c. c.holders) e) refl
         (ap (view w) e ∙ λ i. record (h.shown i) {
           hold = (e3 ∙ ap hold_went o.passed) i;
-          port = is_port _ _
-              (e0 ∙ ((λ i. sends_if true (clock (o.passed i).age) (h.shown i).port.current) ∙ ap (λ (n : ℕ). sends_if true n (open_transfer w H)) (clock_is (age H + step H now))))
-              (e1 ∙ ap (λ (v : View). v.port.next_token) h.shown) (ap resting_by e2 ∙ ap (λ (v : View). v.port.resting) h.shown) i;
+          port = record {
+            state = (e0 ∙ ((λ i. transfers_send (clock (o.passed i).age) (h.shown i).port.state) ∙ ap (λ (n : ℕ). transfers_send n (transfers_at w H)) (clock_is (age w H + step H now)))) i;
+            next_token = (e1 ∙ ap (λ (v : View). v.port.next_token) h.shown) i;
+          };
         })
 
 pub taken_due : (w : Who) (H : List Call) (old new : Controller) (now : ℕ) (r : Option FrameRecord) (x : Due) (mid : Hold) → Is w H old
@@ -674,9 +681,11 @@ held_at_is a m = grind arith
 
 -- in how long a frame of packets can be taken
 pub packets_due : (w : Who) (H : List Call) (c : Controller) → Is w H c
-    → sooner (packet_in (is_left (lane_of w c.lane).current c.lane.count) c.hold.pause) (transfer_in (port_of c.transfers).current (clock c.hold.age))
+    → sooner (packet_in (is_left (lane_of w c.lane).current c.lane.count) c.hold.pause) (soonest (clock c.hold.age) (port_of c.transfers).state.running)
     ≡ packets_in w H
-packets_due w H c e = grind arith
+packets_due w H c h =
+    (λ i. sooner (packet_in (is_left (h.shown i).lane.current (h.shown i).lane.count) (h.shown i).hold.pause) (soonest (clock (h.shown i).hold.age) (h.shown i).port.state.running))
+    ∙ ap (λ (n : ℕ). sooner (packet_in (has_packets w H) (pause H)) (soonest n (transfers_at w H).running)) (clock_is (age w H))
 
 pub held_due : (w : Who) (H : List Call) (c : Controller) (b : Bool) → Is w H c → b ≡ stands c.hold.standing → b ≡ is_held (address_after w H)
 held_due w H c b h e = e ∙ (ap (λ (v : View). stands v.hold.standing) h.shown ∙ stands_is (address_after w H))
@@ -708,9 +717,11 @@ pub claims_more : (w : Who) (H : List Call) (old new : Controller) (now : ℕ) (
     → (broken : Bool) (t : ℕ) → t ≡ time_heard H → broken ≡ nat_lt 0 (length (those_over None (holder_in new.holders) t (hearing_of old.hearing).listening.current))
     → hearing_of new.hearing ≡ leaving None (holder_in new.holders) t (hearing_of old.hearing) → new.hearing.whole ≡ old.hearing.whole
     → new.news ≡ record { lost = old.news.lost; another = old.news.another; doubled = old.news.doubled; missed = broken || old.news.missed }
-    → new ≡ record old { hold = new.hold; holders = new.holders; incoming = new.incoming; hearing = new.hearing; news = new.news }
+    → (port_of new.transfers).state ≡ transfers_leave None (holder_in new.holders) (clock mid.age) (port_of old.transfers).state
+    → new.transfers.next_token ≡ old.transfers.next_token
+    → new ≡ record old { hold = new.hold; holders = new.holders; incoming = new.incoming; transfers = new.transfers; hearing = new.hearing; news = new.news }
     → Is w (At now (TakeFrame (Some f)) ∷ H) new
-claims_more w H old new now f mid a h p owes e0 m at knows drops broken t t1 t2 t3 t4 u e =
+claims_more w H old new now f mid a h p owes e0 m at knows drops broken t t1 t2 t3 t4 u x1 x2 e =
     let k : stamped f ≡ (now, claim_from (who_of w.brought old.own) a) = cc in
     let j : stamped f ≡ (now, claim_from w (claim_address w (address_after w H))) = k ∙ ap (λ (x : Message). (now, x)) (claim_told w H old a h at) in
     let kind_now = kind_is w H now f h.answered (claims_first owes j) in
@@ -724,6 +735,11 @@ claims_more w H old new now f mid a h p owes e0 m at knows drops broken t t1 t2 
         hearing = claimed_on w H now f new.holders t (hearing_of old.hearing) (hearing_of new.hearing) n was knows_now t1 t3 i;
         broadcast_senders = (ap (λ v. map (λ b. (in_box b).name) v.items) t4 ∙ ap (λ (v : View). v.broadcast_senders) h.shown) i;
         incoming = (drops ∙ incoming_claimed w H old now f a new.holders h (sym (ap (λ (x : ℕ × Message). x.1.source) k)) kind_now knows_now) i;
+        port = record {
+          state = (x1 ∙ ((λ i. transfers_leave None (holders_are w (At now (TakeFrame (Some f)) ∷ H) new.holders knows_now i) (clock (p i).age) (h.shown i).port.state)
+              ∙ ap (λ (n : ℕ). transfers_leave None (holder w (At now (TakeFrame (Some f)) ∷ H)) n (transfers_at w H)) (clock_is (age w H + step H now)))) i;
+          next_token = (x2 ∙ ap (λ (v : View). v.port.next_token) h.shown) i;
+        };
       }) ∙ ap (λ (k : Kind). record (framed w H now f k) { incoming = incoming_after w (At now (TakeFrame (Some f)) ∷ H) }) (sym kind_now));
       answered = (h.answered, case_goes {w = w} {H = H} {now = now} {f = f} (claims_first owes j));
       holders = knows_now;
@@ -756,7 +772,7 @@ first_acknowledged w H c now false o h g e =
 pub peeks_other : (w : Who) (H : List Call) (c : Controller) (now : ℕ) (k : Hold) (r : Option FrameRecord) → Is w H c → IsOthers w H now k
     → option_map stamped r ≡ option_map (at_now now) (turn_frame (turn_of k.yields (ready_in c k)) (slice_get (replies_of (incoming_of c.incoming).reception) 0)
     (option_map posted (slice_get c.outgoing.items c.taken)) (packet_by (lane_of (who_of w.brought c.own) c.lane).current c.lane.count k.pause)
-    (transfer_by (port_of c.transfers).current (clock k.age)))
+    (option_map carried_by (said (clock k.age) (port_of c.transfers).state)))
     → option_map stamped r ≡ next_frame w H now
 peeks_other w H c now k r h o m =
     m ∙ ((λ i. option_map (at_now now) (turn_frame (turn_next w H c now k h o.passed o.held i) (slice_get (replies_is w H c h i) 0) (message_next w H c h (holding_not_lost w H now o.held) i)
@@ -779,8 +795,16 @@ packet_goes c k now e f = go (packet_by (lane_of (who_of nothing c.own) c.lane).
     go o g i = not_there o i (mapped_none (at_now now) o (sym g))
 
 pub move_goes : (c : Controller) (k : Hold) (now : ℕ) → turn_of k.yields (ready_in c k) ≡ Some Move
-    → (let none : Option (ℕ × Message) = None in none) ≡ option_map (at_now now) (transfer_by (port_of c.transfers).current (clock k.age)) → ⊥
-move_goes c k now e f = grind (arith, e, f)
+    → (let none : Option (ℕ × Message) = None in none) ≡ option_map (at_now now) (option_map carried_by (said (clock k.age) (port_of c.transfers).state)) → ⊥
+move_goes c k now e f = go (option_map carried_by (said (clock k.age) (port_of c.transfers).state)) (slice_get (replies_of (incoming_of c.incoming).reception) 0)
+    (due (subst (IsTurn k.yields (ready_in c k)) e (turn_is k.yields (ready_in c k)))) f
+  where
+    due : IsTurn k.yields (ready_in c k) (Some Move) → (ready_in c k).transfer ≡ true
+    due e = e.1
+
+    go : (o r : Option Message) → is_apart o r ≡ true → (let none : Option (ℕ × Message) = None in none) ≡ option_map (at_now now) o → ⊥
+    go None r t g = absurd (cc)
+    go (Some m) r t g = absurd (cc)
 
 -- ---- broadcasts
 
@@ -801,11 +825,54 @@ asks_no_more_is w H c h =
 
 -- ---- transfers
 
-pub engaged_is : (w : Who) (H : List Call) (c : Controller) (now group to : ℕ) (mid : Hold) → Is w H c → Passed w H now mid
-    → (is_engaged (port_of c.transfers).current c.transfers.next_token || (nat_lt 0 mid.rest && holds_back (port_of c.transfers).resting group to))
-    ≡ (is_engaged (open_transfer w H) (length (all_transfers w H)) || is_resting w H now group to)
-engaged_is w H c now group to mid e f = grind arith
+-- none is over, so none is told
+pub none_ends : (w : Who) (H : List Call) → None ≡ next_transfer_ended w H → transfers_tell (transfers_at w H) ≡ transfers_at w H
+none_ends w H e = go (find is_over s.running) refl e
+  where
+    s : TransfersRecord
+    s = transfers_at w H
 
-pub transfer_end_is : (w : Who) (H : List Call) (c : Controller) (b : Bool) → Is w H c → b ≡ lost c.hold.standing
-    → transfer_end (port_of c.transfers).current b ≡ next_transfer_ended w H
-transfer_end_is w H c b e f = grind (arith, f)
+    some : (x : Running) (q : Option TransferEnding) → has_some q ≡ true → None ≡ option_map (λ e. (let y : ℕ × TransferEnding = (x.token, e) in y)) q → ⊥
+    some x None h e = absurd (cc)
+    some x (Some y) h e = absurd (cc)
+
+    go : (o : Option Running) → find is_over s.running ≡ o → None ≡ end_by o → transfers_tell s ≡ s
+    go None i e = λ j. record s { running = others_none is_over s.running i j; rests = (ap (λ (o : Option Running). s.rests ++ listed_rests (rest_by o)) i ∙ append-nil s.rests) j }
+    go (Some x) i e = absurd (some x (ending x) (found_passes is_over s.running x i) e)
+
+pub ends_told : (w : Who) (H : List Call) (r : Option (ℕ × TransferEnding)) → r ≡ next_transfer_ended w H → transfers_tell (transfers_at w H) ≡ transfers_at w (TakeTransferEnded r ∷ H)
+ends_told w H None e = none_ends w H e
+ends_told w H (Some x) e = refl
+
+-- a frame is heard
+pub transfers_heard : (w : Who) (H : List Call) (b : Bool) (now : ℕ) (who : ℕ → Option ℕ) (f : FrameRecord)
+    → (if b then transfers_lose now (transfers_at w H) else transfers_hear f now (transfers_leave None who now (transfers_at w H)))
+    ≡ transfers_after 0 w.transfers (heard_events b now who f (transfer_events w H))
+transfers_heard w H true now who f = refl
+transfers_heard w H false now who f = refl
+
+-- a message is handed in that can be sent
+module _ (w : Who) (H : List Call) (now group to : ℕ) (bytes : List ℕ) where
+  abbrev begun_now : TransfersRecord
+  begun_now = transfers_begin (order (length (all_transfers w H)) group to bytes) (holder w H to) (clock_at w H now) (transfers_at w H)
+
+  pub transfers_tried : (other : Bool) (r : Result ℕ Refused) → r ≡ (if nat_eq (length (all_transfers w H)) 18446744073709551615 || other then Err Full else Ok (length (all_transfers w H)))
+      → (if nat_eq (length (all_transfers w H)) 18446744073709551615 then transfers_at w H else begun_now) ≡ transfers_at w (At now (Transfer group to bytes r) ∷ H)
+  transfers_tried other r e =
+      by (nat_eq (length (all_transfers w H)) 18446744073709551615) (tried (nat_eq (length (all_transfers w H)) 18446744073709551615) other (length (all_transfers w H)) r e)
+    where
+      by : (last : Bool) → is_tried r (nat_eq (length (all_transfers w H)) 18446744073709551615) ≡ not last
+          → (if last then transfers_at w H else begun_now) ≡ transfers_at w (At now (Transfer group to bytes r) ∷ H)
+      by true i = sym (ap (λ (b : Bool). transfers_after 0 w.transfers (tried_events b (Begins (order (length (all_transfers w H)) group to bytes) (holder w H to) (clock_at w H now)) (transfer_events w H))) i)
+      by false i = sym (ap (λ (b : Bool). transfers_after 0 w.transfers (tried_events b (Begins (order (length (all_transfers w H)) group to bytes) (holder w H to) (clock_at w H now)) (transfer_events w H))) i)
+
+      tried : (last other : Bool) (k : ℕ) (r : Result ℕ Refused) → r ≡ (if last || other then Err Full else Ok k) → is_tried r last ≡ not last
+      tried last other k r e = grind (arith, e)
+
+  pub tokens_tried : (n : ℕ) (r : Result ℕ Refused) → n ≡ length (all_transfers w H) → (if is_ok r then n + 1 else n) ≡ length (all_transfers w (At now (Transfer group to bytes r) ∷ H))
+  tokens_tried n (Ok k) e = let m = length_one_more (all_transfers w H) (to, broadcast_from w group bytes) in omega (arith, e, m)
+  tokens_tried n (Err x) e = e
+
+-- before the first call
+pub begun_transfers : (a n : ℕ) → a < 254 → no_transfers a n ≡ transfers_after 0 n (Moves a ∷ [])
+begun_transfers a n l = sym (ap (λ (b : Bool). (let s : TransfersRecord = no_transfers 0 n in if b && true then record s { own = a } else s)) (lt-ltb a 254 l))

@@ -56,23 +56,26 @@ pub use Rattle.j39_sessions.specs.Sessions.{earliest as earliest_session, is_ope
 pub use Rattle.j39_node.specs.Asking.{answer_to_ask, ask_end, AskedSince, asks, can_ask, comes, comes_by, comes_in, end_at, ended, ends, first, has_token, HeardFirst, is_answer, is_asking, is_coming, is_of, is_request, made, made_of, next_ask_ended, NoneEnds, open_ask, out_at, Question, question, RanOut, reaches, request_tick, says_to, seeks, silent_end, told_asks, wait}
 pub use Rattle.j39_node.specs.Example.{clear_to, first_from, nine, other_request_from, two}
 pub use Rattle.j39_node.specs.Hearing.{account, announced, announces, AreApart, chosen, earliest, expires, found, found_in, got_broadcasts, grown, has_room, hearing, hearing_tick, hears as hears_it, hears_in, is_any, is_beside, is_ignored, is_late, is_unheard, is_unheard_in, is_wanted, is_whole, IsFit, IsPartOf, late_at, Listening, listening, made_in, made_whole, message_by, more, of, OpenBroadcast, opens, others, over_by, packed, packs, part_of, since_in, skips, stay, staying, those_over, unheard, unheard_by, unheard_news, waiting, WasBroadcast, whole_broadcasts, whole_of, with_all, with_one, without_source}
-pub use Rattle.j39_node.specs.History.{accepted, acknowledged, acknowledgment, acknowledgment_group, Act, Address, address_after, all_frames, AllRest, another_news, answers_another, Asked, asked, asked_group, asked_with, asks_with, blank, broadcast_from, broadcasts, Brought, Call, calls, calls_for_claim, can_broadcast, can_send, carried, claim_address, claim_from, claim_with, claimed, content, delayed, double, doubled_news, Draft, due, first_frames, frame_of, frames, fresh, got, handed, has_packets, held_at, holds, is_acknowledgment, is_alike, is_another, is_asked, is_blank, is_busy, is_claim, is_double, is_for_program, is_full, is_held, is_larger, is_left, is_lost, is_none, is_open, is_own_group, is_packet, is_refusal_due, is_sendable, is_served, is_session, is_smaller, is_some, is_subscribed, is_transfer, IsFront, kept, latest, lost_news, marks, may_claim, Message, message_from, message_of, missed, missed_news, moment, NoneRests, nothing, of_other, older, open_broadcast, owes_claim, packets, PairRests, past, patience, pause, reached, refusal, refusal_waits, repeats, request_for, requests, Resting, sent, stamp_at, step, told, told_broadcasts, told_claims, turns, unblanked, unclaimed, waits_already, Who, with_refusal, with_request}
+pub use Rattle.j39_node.specs.History.{accepted, acknowledged, acknowledgment, acknowledgment_group, Act, Address, address_after, all_frames, another_news, answers_another, Asked, asked, asked_group, asked_with, asks_with, blank, broadcast_from, broadcasts, Brought, Call, calls, calls_for_claim, can_broadcast, can_send, carried, claim_address, claim_from, claim_with, claimed, content, delayed, double, doubled_news, Draft, due, first_frames, frame_of, frames, fresh, got, handed, has_packets, held_at, holds, is_acknowledgment, is_alike, is_another, is_asked, is_blank, is_busy, is_claim, is_double, is_for_program, is_full, is_held, is_larger, is_left, is_lost, is_none, is_open, is_own_group, is_packet, is_refusal_due, is_sendable, is_served, is_session, is_smaller, is_some, is_subscribed, is_transfer, IsFront, kept, latest, lost_news, marks, may_claim, Message, message_from, message_of, missed, missed_news, moment, nothing, of_other, older, open_broadcast, owes_claim, packets, past, patience, pause, reached, refusal, refusal_waits, repeats, request_for, requests, sent, stamp_at, step, told, told_broadcasts, told_claims, turns, unblanked, unclaimed, waits_already, Who, with_refusal, with_request}
 pub use Rattle.j39_node.specs.History.Act.{Acknowledge, Again, Ask, Broadcast, Hear, Send, TakeFrame, Tick, Transfer}
 pub use Rattle.j39_node.specs.History.Address.{Claimed, Lost, NotClaimed}
 pub use Rattle.j39_node.specs.History.Call.{At, ReleaseBroadcast, ReleaseTransfer, Renew, TakeAskEnded, TakeBroadcastEnded, TakeEnded, TakeNews, TakeReceived, TakeRequest, TakeTransferEnded, Withdraw}
-pub use Rattle.j39_node.specs.Hold.{anew, can_claim, claims, heard, acknowledged as hold_acknowledged, asked as hold_asked, claimed as hold_claimed, moved as hold_moved, opens as hold_opens, spoken as hold_spoken, went as hold_went, left_at, less, lost, passed, paused, rested, standing_of, stands, unclaims}
-pub use Rattle.j39_node.specs.Is.{IsOthers, led, after, answer_to_acknowledge, answer_to_broadcast, answer_to_send, AreAnswered, ask_record, asked_by, asking_after, asking_of, AskRecord, broadcast_end, claim_due, claim_goes, closed, control_of, counted, end_of, ending_of, gives_way, hearing_after, hearing_of, HearingRecord, hears_with, hold_after, incoming_after, incoming_of, IncomingRecord, Is, is_apart, is_overdue, is_there, is_turn, IsAnswered, lane_after, lane_of, long_by, may_go, news_after, news_of, next_acknowledgment, next_broadcast_ended, next_ended, next_frame, next_long, next_news, next_other, next_packet, next_renewed, next_turn, next_withdrawn, offered, opened, other, packet_by, passed_to, place_of, port_after, port_of, PortRecord, posted, ready, ready_in, received_by, sender_by, refusal_by, Renews, request_by, resting_by, running, silence, stamped, status_after, status_of, ticks, turn_frame, turn_of, View, view, who_of, with_called, with_reception, takes_in, gone_by, found as found_by_frame}
-pub use Rattle.j39_node.specs.Moves.{abort_move, Aborts, Acknowledges, clears, clears_by, Happened, is_clear, IsAmong, IsMove, moves, packet_move, Replaces, takes_clear}
+pub use Rattle.j39_node.specs.Hold.{anew, can_claim, claims, heard, acknowledged as hold_acknowledged, asked as hold_asked, claimed as hold_claimed, moved as hold_moved, opens as hold_opens, spoken as hold_spoken, went as hold_went, left_at, less, lost, passed, paused, standing_of, stands, unclaims}
+pub use Rattle.j39_node.specs.Is.{IsOthers, led, after, answer_to_acknowledge, answer_to_broadcast, answer_to_send, AreAnswered, ask_record, asked_by, asking_after, asking_of, AskRecord, broadcast_end, claim_due, claim_goes, control_of, counted, end_of, ending_of, gives_way, hearing_after, hearing_of, HearingRecord, hears_with, hold_after, incoming_after, incoming_of, IncomingRecord, Is, IsFresh, is_apart, is_overdue, is_there, is_turn, IsAnswered, lane_after, lane_of, long_by, may_go, news_after, news_of, next_acknowledgment, next_broadcast_ended, next_ended, next_frame, next_long, next_news, next_other, next_packet, next_renewed, next_turn, next_withdrawn, offered, opened, other, packet_by, passed_to, place_of, port_after, port_of, PortRecord, posted, ready, ready_in, received_by, sender_by, refusal_by, Renews, request_by, silence, stamped, status_after, status_of, ticks, turn_frame, turn_of, View, view, who_of, with_called, with_reception, takes_in, gone_by, found as found_by_frame}
+pub use Rattle.j39_node.specs.Moves.{abort_move, Aborts, Acknowledges, clears, clears_by, Happened, is_move_to, IsAmong, IsMove, moves, packet_move, Replaces, takes_clear}
 pub use Rattle.j39_node.specs.Moving.{has_given, has_told, HasMoved, IsSettled, moved}
 pub use Rattle.j39_node.specs.Packets.{Bring, is_of_sender, IsPacket, Spares}
 pub use Rattle.j39_node.specs.Packets.Bring.{begins, brings, spares}
-pub use Rattle.j39_node.specs.Prompt.{claims_anew, counts_for, IsPaced, IsPrompt, IsSteady, NoneTold, packets_taken, since_take, StaysFirst, taken_for, takes_other, takes_reply, tells_broadcast, tells_transfer, waited_in}
+pub use Rattle.j39_node.specs.Prompt.{claims_anew, counts_for, is_open_to, IsPaced, IsPrompt, IsSteady, NoneTold, packets_taken, since_take, StaysFirst, taken_for, takes_other, takes_reply, tells_broadcast, tells_transfer, waited_in}
 pub use Rattle.j39_node.specs.PromptExample.{idle}
 pub use Rattle.j39_node.specs.Reception.{Calling, CameFromOne, KeepsHolder, asked_whom, asks_claims, called, called_for, calls_whom, claimed_again, delivered, frames_heard, got_transfers, heard_at, heard_by, held_then, held_through, holder, is_called, is_message, is_move, is_reply, is_that, known, known_by, later, reception, released_by, reply_from, restarts, senders, session_tick, still, taken_by, taken_whom, tick_at, time_heard, transfer_sender, waned, whole, whom, yields, events, found_by, if_heard, replies as all_replies, replies_of, said_from, says as said_to_frame, session, sessions_after}
-pub use Rattle.j39_node.specs.Since.{ClaimedSince, HasDouble, NeverBack, NoneUnclaims, PacketSince, passed_in, ToldSince}
+pub use Rattle.j39_node.specs.Since.{ClaimedSince, HasDouble, NeverBack, NoneUnclaims, PacketSince, passed_in, RestsSince}
 pub use Rattle.j39_node.specs.SteadyExample.{brought_start, busy, message_start, transfer_accepted}
 pub use Rattle.j39_node.specs.Ticks.{IsHeardOf, IsOpenOf, next_tick, StaysHeard, StaysOpen, TicksWithin, unticked_in}
-pub use Rattle.j39_node.specs.Transfers.{age, transfers as all_transfers, answer_to_transfer, at_in, begun, broken_off, can_transfer, clock, clock_at, ending_by, gives_up, granted_after, hears, hears_if, holds_back, is_engaged, is_replaced, is_resting, is_spent, joined, listens, move, next_due, next_transfer, next_transfer_ended, open_transfer, packets_in, rest, resting, rests_after, Running, running_in, says, sends, sends_if, signal_by, sooner, spent_after, told_transfers, transfer_by, transfer_end, transfer_in, transfers, with_pair}
+pub use Rattle.j39_node.specs.Transfers.{age, transfers as all_transfers, answer_to_transfer, at_in, can_transfer, carried_by, clock, clock_at, heard_events, is_refused as is_refused_now, is_resting, is_tried, move, next_due, next_transfer, next_transfer_ended, open_to, order, packets_in, resting_at, says, taken_events, told_transfers, transfer_events, transfers, transfers_at, tried_events}
+pub use Rattle.j39_transfers.specs.declared.kinds.Ending.{Ending as TransferEnding}
+pub use Rattle.j39_transfers.specs.declared.kinds.Ending.TheVariants.{Gone}
+pub use Rattle.j39_transfers.specs.Transfers.{answer, breaks, clears_in, gives_up, granted_after, hears_in as heard_in_one, is_over, is_replaced, is_spent, leaves_in, listens, of as of_whom, said, sends_in as sent_in_one, signal_by, sooner, soonest, spent_after, to as to_whom, Transfer as Running, TransfersRecord}
 pub use Rattle.j39_node.specs.declared.controller.Controller.{Controller}
 pub use Rattle.j39_node.specs.declared.hold.Hold.{Hold}
 pub use Rattle.j39_node.specs.declared.hold.Standing.{Standing}
@@ -87,8 +90,6 @@ pub use Rattle.j39_node.specs.declared.kinds.News.{News}
 pub use Rattle.j39_node.specs.declared.kinds.News.TheVariants.{AddressLost, AnotherAtAddress, MessagesMissed, NameDoubled}
 pub use Rattle.j39_node.specs.declared.kinds.Refused.{Refused}
 pub use Rattle.j39_node.specs.declared.kinds.Refused.TheVariants.{BadValue, Full, NoAddress}
-pub use Rattle.j39_node.specs.declared.kinds.TransferEnding.{TransferEnding}
-pub use Rattle.j39_node.specs.declared.kinds.TransferEnding.TheVariants.{Gone}
 pub use Rattle.j39_node.specs.declared.lane.Open.{Open}
 pub use Rattle.j39_node.specs.declared.news.Untold.{Untold}
 pub use Rattle.j39_node.specs.declared.outgoing.Outgoing.{Outgoing}

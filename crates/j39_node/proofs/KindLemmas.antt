@@ -5,7 +5,7 @@ use Rattle.j39_node.proofs.SoundLemmas.{FrameCase, is_moved, reply_no_move, is_d
 use Rattle.j39_node.proofs.ReceptionLemmas.{reply_of}
 use Rattle.j39_node.proofs.QueueLemmas.{all_at}
 
--- a claim, an acknowledgment, one of a session, of a broadcast, the first reply, one of the open transfer
+-- a claim, an acknowledgment, one of a session, of a broadcast, the first reply, one of a transfer
 pub record Kind : Type 0 where
   pub claim : Bool
   pub acknowledgment : Bool

@@ -680,7 +680,7 @@ due_now w H c now None is e z =
     none_taken w H c now is (λ d k. from_long w H now (sym d ∙ e) k) (λ p d q. not_at_once w H p (sym d ∙ e))
 
 pub due_then : (w : Who) (H : List Call) (c : Controller) (now t : ℕ) (answer : Option FrameRecord) → Is w (At now (TakeFrame answer) ∷ H) c
-    → next_due w H ≡ Some t → t ≤ now → IsTrue (is_held (address_after w H)) → age H + step H t < 10000000000000000 → answer ≢ None
+    → next_due w H ≡ Some t → t ≤ now → IsTrue (is_held (address_after w H)) → age w H + step H t < 10000000000000000 → answer ≢ None
 due_then w H c now t (Some f) is e l held m z = absurd (cc)
 due_then w H c now t None is e l held m z =
     none_taken w H c now is (λ d k. then_long w H now t l m (sym d ∙ e) k) (λ p d q. not_both _ q held)

@@ -13,6 +13,8 @@ pub mod RenewLemmas
 pub mod HearingLemmas
 pub mod ListenLemmas
 -- transfers: between which addresses the open one goes, and the frames that it makes
+pub mod OpenLemmas
+pub mod ChangeLemmas
 pub mod PortLemmas
 pub mod SaidLemmas
 -- what the calls answer that accept something
@@ -53,6 +55,9 @@ pub mod RestartLaws
 pub mod MoveSteps
 pub mod MoveLemmas
 pub mod TransferLaws
+pub mod TransferEnds
+pub mod CountLaws
+pub mod InTurn
 -- the laws of broadcasts in packets that are heard
 pub mod HearingLaws
 pub mod ApartLaws

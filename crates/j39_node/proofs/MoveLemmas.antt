@@ -1,167 +1,188 @@
--- What every answered history says of transfers.
-use Rattle.j39_node.proofs.Common.{[], if◌then◌else◌, ◌++◌, ◌∙◌, ◌∷◌, ◌≡◌, ◌⊎◌, Abort, aborted, accepted, address_after, all_transfers, ap, AreAnswered, arith, At, begun, Bool, broadcast_from, Call, clock_at, cond_both, false, FrameRecord, gives_up, Happened, Hear, hears, hears_if, holder, holds, inl, inr, is_engaged, is_lost, is_move, is_replaced, is_resting, is_running, is_spent, length, List, Message, message_of, MessageRecord, Move, moves, new_sender, next_acknowledgment, next_packet, None, Ok, open_transfer, Option, or_parts, reached, refl, Running, says, send_step, sends, sends_if, Signal, signal_by, slice_get, Some, subst, suc, sym, TakeFrame, TakeTransferEnded, told_transfers, Transfer, transfer_end, TransferEnding, true, Who, ℕ, answer_to_transfer, not_both, and_parts}
-use Rattle.j39_transport.specs.Sending.{Tick}
+-- What every answered history says of the transfer to an address.
+use Rattle.j39_node.proofs.Common.{[], ◌++◌, ◌||◌, ◌∙◌, ◌∷◌, ◌≡◌, ◌≢◌, ◌≤◌, ◌⊎◌, Abort, aborted, address_after, all_transfers, and_parts, ap, AreAnswered, arith, At, Bool, breaks, broadcast_from, Call, clock_at, cond_both, eq-eqb, false, FrameRecord, gives_up, Happened, has_some, Hear, holder, if◌then◌else◌, inl, inr, is_lost, is_over, is_running, is_spent, leaves_in, length, List, listens, Message, message_of, MessageRecord, moves, ne_eqb, new_sender, None, NoneTold, Ok, of_whom, open_to, option_map, Option, refl, Running, same_Some, says, send_step, SenderRecord, sent_in_one, Signal, signal_by, slice_get, Some, subst, sym, TakeFrame, TakeTransferEnded, tells_transfer, to_whom, Transfer, TransferEnding, true, Who, ℕ, slice_get_within}
+use Rattle.j39_transport.specs.Sending.{Heard, Tick}
+use Rattle.j39_transfers.specs.Transfers.{is_left}
+use Rattle.j39_transfers.specs.declared.kinds.Ending.TheVariants as how
+use Rattle.j39_transfers.proofs.StepLemmas.{keeps_broken, keeps_heard, keeps_left}
 use Rattle.j39_node.specs.Moves.{begins}
-use Rattle.j39_node.proofs.QueueLemmas.{length_one_more, get_last}
-use Rattle.j39_node.proofs.SoundLemmas.{nothing_else, turned, FrameCase, frame_case}
-use Rattle.j39_node.proofs.SoundLemmas.FrameCase.{transfers}
-use Rattle.j39_node.proofs.PortLemmas.{hears_same, sends_same, hears_cases, transfer_says}
+use Rattle.j39_node.proofs.ChangeLemmas.{Change, change, Sent}
+use Rattle.j39_node.proofs.ChangeLemmas.Change.{hears, claims, sends, starts, ends, stays}
+use Rattle.j39_node.proofs.OpenLemmas.{begun_to, heard_open, open_told, Told}
+use Rattle.j39_node.proofs.PortLemmas.{broken_same, heard_same, left_same, sent_same, started}
 use Rattle.j39_node.proofs.MoveSteps.{Moved, moved_given_up, moved_heard, moved_ticked}
-use Rattle.j39_node.proofs.AnswerCases.{transfer_accepts}
-use Rattle.j39_node.proofs.KindLemmas.{moves_it}
+use Rattle.j39_node.proofs.QueueLemmas.{length_one_more, get_last}
+use Rattle.j39_node.proofs.WithdrawLemmas.{get_front}
+use Rattle.j39_transfers.proofs.StepLemmas.{IsSame}
 
--- ---- a frame of the open transfer is taken
+pub none_first : (w : Who) (a : ℕ) → AreAnswered w [] → open_to w a [] ≡ None
+none_first w a e = ap (of_whom a) (started w e).0
 
-pub record Sent (w : Who) (H : List Call) (now : ℕ) (f : FrameRecord) : Type 0 where
-  pub running : Running
-  pub is : open_transfer w H ≡ Some running
-  pub signal : Signal
-  pub said : signal_by running (clock_at H now) ≡ Some signal
-  pub frame : message_of f ≡ says running.sender signal
-  pub held : holds w H now ≡ true
-  pub none_due : next_acknowledgment w H now ≡ None
-  pub none_waits : slice_get (accepted w H) (reached H) ≡ None
-  pub no_packet : next_packet w H now ≡ None
+-- ---- what a frame that is heard makes of its sender
 
-pub sent_case : (w : Who) (H : List Call) (now : ℕ) (f : FrameRecord) → AreAnswered w H → FrameCase w H now f → is_move w H f ≡ true → Sent w H now f
-sent_case w H now f right (transfers m o k n g e) p =
-    let r = nothing_else w H now (turned w H now (Some Move) n.1).0 in
-    let x = transfer_says (open_transfer w H) (clock_at H now) m g in
-    record {
-      running = x.0;
-      is = x.1;
-      signal = x.2.0;
-      said = x.2.1;
-      frame = ap (λ (y : ℕ × Message). y.1) e ∙ sym x.2.2;
-      held = k;
-      none_due = n.0;
-      none_waits = r.0;
-      no_packet = r.1;
-    }
-sent_case w H now f right case p = absurd (not_both _ (moves_it w H now f right case) p)
+pub broken_sender : (e : TransferEnding) (now : ℕ) (x : Running) → (breaks e now x).sender ≡ x.sender
+broken_sender e now x = cond_both (is_over x) x (record x { broken = Some e; last = now }) (λ (y : Running). y.sender ≡ x.sender) (λ i. refl) (λ i. refl)
 
--- ---- what was taken of the open transfer
+pub left_sender : (who : ℕ → Option ℕ) (now : ℕ) (x : Running) → (leaves_in None who now x).sender ≡ x.sender
+left_sender who now x =
+    cond_both (is_left None who x) (breaks how.Gone now x) (record x { name = who (to_whom x) }) (λ (y : Running). y.sender ≡ x.sender) (λ i. broken_sender how.Gone now x) (λ i. refl)
+
+-- its sender hears it, or stays
+pub heard_sender : (P : SenderRecord → Type 0) (lost : Bool) (who : ℕ → Option ℕ) (f : FrameRecord) (now : ℕ) (x : Running) → P x.sender → P (send_step x.sender (Heard f) now).after
+    → P (heard_open lost who f now x).sender
+heard_sender P true who f now x h k = subst P (sym (broken_sender how.Withdrawn now x)) h
+heard_sender P false who f now x h k =
+    let y = leaves_in None who now x in
+    let e = left_sender who now x in
+    cond_both (is_over y || is_spent y) y (listens f now y) (λ (z : Running). P z.sender) (λ i. subst P (sym e) h) (λ i. subst (λ (s : SenderRecord). P (send_step s (Heard f) now).after) (sym e) k)
+
+pub heard_open_same : (lost : Bool) (who : ℕ → Option ℕ) (f : FrameRecord) (now : ℕ) (x : Running) → IsSame x.sender (heard_open lost who f now x).sender
+heard_open_same true who f now x = broken_same how.Withdrawn now x
+heard_open_same false who f now x =
+    let a = left_same who now x in let b = heard_same f now (leaves_in None who now x) in (b.0 ∙ a.0, b.1 ∙ a.1)
+
+pub heard_open_token : (lost : Bool) (who : ℕ → Option ℕ) (f : FrameRecord) (now : ℕ) (x : Running) → (heard_open lost who f now x).token ≡ x.token
+heard_open_token true who f now x = (keeps_broken how.Withdrawn now x).1
+heard_open_token false who f now x = (keeps_heard f now (leaves_in None who now x)).1 ∙ (keeps_left None who now x).1
+
+-- ---- what was taken of it
 
 abbrev pub MovedIf : Option Running → List Message → Type 0
 MovedIf None xs = Unit {0}
-MovedIf (Some t) xs = Moved t.sender xs
+MovedIf (Some x) xs = Moved x.sender xs
 
-moved_hears : (lost : Bool) (replaced : ℕ → Bool) (f : FrameRecord) (now : ℕ) (o : Option Running) (xs : List Message) → MovedIf o xs
-    → MovedIf (hears_if lost replaced f now o) xs
-moved_hears lost replaced f now None xs h = h
-moved_hears lost replaced f now (Some t) xs h =
-    hears_cases (λ (u : Running). Moved u.sender xs) lost (replaced t.sender.destination) f now t h (λ z. h) (λ z. moved_heard t.sender f now xs h)
+moved_map : (g : Running → Running) (o : Option Running) (xs : List Message) → ((x : Running) → Moved x.sender xs → Moved (g x).sender xs) → MovedIf o xs → MovedIf (option_map g o) xs
+moved_map g None xs k h = h
+moved_map g (Some x) xs k h = k x h
 
-signal_parts : (t : Running) (now : ℕ) (xs : List Message) (a : Signal) → Moved t.sender xs → signal_by t now ≡ Some a
-    → Moved (sends now t).sender (xs ++ says t.sender a ∷ [])
-signal_parts t now xs a h = cond_both t.gone None _ (λ (o : Option Signal). o ≡ Some a → Moved (sends now t).sender (xs ++ says t.sender a ∷ []))
+signal_parts : (x : Running) (now : ℕ) (xs : List Message) (a : Signal) → Moved x.sender xs → signal_by now x ≡ Some a
+    → Moved (sent_in_one now x).sender (xs ++ says x.sender a ∷ [])
+signal_parts x now xs a h = cond_both (has_some x.broken) None _ (λ (o : Option Signal). o ≡ Some a → Moved (sent_in_one now x).sender (xs ++ says x.sender a ∷ []))
     (λ z e. absurd (cc))
-    (λ z. go (gives_up t) refl)
+    (λ z. go (gives_up x) refl)
   where
-    go : (b : Bool) → gives_up t ≡ b → (if b then Some (Abort 5 t.sender.message.pgn) else (send_step t.sender Tick now).says) ≡ Some a
-        → Moved (if b then aborted 5 t.sender else (send_step t.sender Tick now).after) (xs ++ says t.sender a ∷ [])
-    go true k e = moved_given_up t.sender 5 xs (says t.sender a) (and_parts (is_spent t) (is_running t.sender.state) k).1 h
-    go false k e = moved_ticked t.sender now xs a h e
-
-moved_frame : (w : Who) (H : List Call) (now : ℕ) (f : FrameRecord) → AreAnswered w H → FrameCase w H now f → MovedIf (open_transfer w H) (moves w H)
-    → (b : Bool) → is_move w H f ≡ b → MovedIf (sends_if b (clock_at H now) (open_transfer w H)) (if b then moves w H ++ message_of f ∷ [] else moves w H)
-moved_frame w H now f right case h false e = h
-moved_frame w H now f right case h true e =
-    let s = sent_case w H now f right case e in
-    subst (λ (o : Option Running). MovedIf (sends_if true (clock_at H now) o) (moves w H ++ message_of f ∷ [])) (sym s.is)
-    (subst (λ (m : Message). Moved (sends (clock_at H now) s.running).sender (moves w H ++ m ∷ [])) (sym s.frame)
-    (signal_parts s.running (clock_at H now) (moves w H) s.signal (subst (λ (o : Option Running). MovedIf o (moves w H)) s.is h) s.said))
+    go : (b : Bool) → gives_up x ≡ b → (if b then Some (Abort 5 x.sender.message.pgn) else (send_step x.sender Tick now).says) ≡ Some a
+        → Moved (if b then aborted 5 x.sender else (send_step x.sender Tick now).after) (xs ++ says x.sender a ∷ [])
+    go true k e = moved_given_up x.sender 5 xs (says x.sender a) (and_parts (is_spent x) (is_running x.sender.state) k).1 h
+    go false k e = moved_ticked x.sender now xs a h e
 
 moved_new : (m : MessageRecord) (to : ℕ) → Moved (new_sender m to) []
 unfolding new_sender
 moved_new m to = record { state = refl; taken = λ i l k. absurd (omega (arith, l, k)) }
 
-pub moved : (w : Who) (H : List Call) → AreAnswered w H → MovedIf (open_transfer w H) (moves w H)
-moved w [] e = tt
-moved w (At when (Hear f) ∷ H) e =
-    moved_hears (is_lost (address_after w (At when (Hear f) ∷ H))) (λ a. is_replaced (holder w H a) (holder w (At when (Hear f) ∷ H) a)) f (clock_at H when) (open_transfer w H) (moves w H)
-    (moved w H e.0)
-moved w (At now (TakeFrame (Some f)) ∷ H) e = moved_frame w H now f e.0 (frame_case w H now f e.1) (moved w H e.0) (is_move w H f) refl
-moved w (At now (Transfer group to bytes (Ok k)) ∷ H) e = moved_new (broadcast_from w group bytes) to
-moved w (TakeTransferEnded (Some x) ∷ H) e = tt
-moved w (call ∷ H) e = moved w H e.0
+moved_more : (w : Who) (a : ℕ) (H : List Call) (call : Call) (o q : Option Running) → Change w a H call o q → MovedIf o (moves w a H) → MovedIf q (moves w a (call ∷ H))
+moved_more w a H call o q (hears now f x) h =
+    moved_map (heard_open (is_lost (address_after w (At now (Hear f) ∷ H))) (holder w (At now (Hear f) ∷ H)) f (clock_at w H now)) x (moves w a H)
+    (λ y m. heard_sender (λ (s : SenderRecord). Moved s (moves w a H)) (is_lost (address_after w (At now (Hear f) ∷ H))) (holder w (At now (Hear f) ∷ H)) f (clock_at w H now) y m
+    (moved_heard y.sender f (clock_at w H now) (moves w a H) m)) h
+moved_more w a H call o q (claims now f x c m) h =
+    subst (MovedIf (option_map (leaves_in None (holder w (At now (TakeFrame (Some f)) ∷ H)) (clock_at w H now)) x)) (sym (ap (λ (b : Bool). if b then moves w a H ++ message_of f ∷ [] else moves w a H) m))
+    (moved_map (leaves_in None (holder w (At now (TakeFrame (Some f)) ∷ H)) (clock_at w H now)) x (moves w a H)
+    (λ y k. subst (λ (s : SenderRecord). Moved s (moves w a H)) (sym (left_sender (holder w (At now (TakeFrame (Some f)) ∷ H)) (clock_at w H now) y)) k) h)
+moved_more w a H call o q (sends now f s z m) h =
+    subst (Moved (sent_in_one (clock_at w H now) s.running).sender) (sym (ap (λ (b : Bool). if b then moves w a H ++ message_of f ∷ [] else moves w a H) m ∙ ap (λ (x : Message). moves w a H ++ x ∷ []) s.frame))
+    (signal_parts s.running (clock_at w H now) (moves w a H) s.signal h s.said)
+moved_more w a H call o q (starts now group to k bytes e z) h =
+    subst (Moved (new_sender (broadcast_from w group bytes) to)) (sym (ap (λ (b : Bool). if b then [] else moves w a H) (eq-eqb to a z))) (moved_new (broadcast_from w group bytes) to)
+moved_more w a H call o q (ends e t z) h = tt
+moved_more w a H call o q (stays c x b m n i t u) h = subst (MovedIf x) (sym m) h
 
-pub moved_open : (w : Who) (H : List Call) (t : Running) → AreAnswered w H → open_transfer w H ≡ Some t → Moved t.sender (moves w H)
-moved_open w H t right e = subst (λ (o : Option Running). MovedIf o (moves w H)) e (moved w H right)
+pub moved : (w : Who) (a : ℕ) (H : List Call) → AreAnswered w H → MovedIf (open_to w a H) (moves w a H)
+moved w a [] e = subst (λ (o : Option Running). MovedIf o []) (sym (none_first w a e)) tt
+moved w a (call ∷ H) e = moved_more w a H call (open_to w a H) (open_to w a (call ∷ H)) (change w a call H e) (moved w a H e.0)
+
+pub moved_open : (w : Who) (a : ℕ) (H : List Call) (x : Running) → AreAnswered w H → open_to w a H ≡ Some x → Moved x.sender (moves w a H)
+moved_open w a H x right e = subst (λ (o : Option Running). MovedIf o (moves w a H)) e (moved w a H right)
 
 -- ---- which transfer is open
 
--- it is the last that was accepted
-pub record Last (told : ℕ) (all : List (ℕ × MessageRecord)) (t : Running) : Type 0 where
-  pub token : t.token ≡ told
-  pub last : slice_get all t.token ≡ Some (t.sender.destination, t.sender.message)
-  pub count : suc t.token ≡ length all
+-- it was accepted under its token, and isn't told
+pub record Listed (w : Who) (a : ℕ) (H : List Call) (x : Running) : Type 0 where
+  pub at : slice_get (all_transfers w H) x.token ≡ Some (a, x.sender.message)
+  pub untold : NoneTold (tells_transfer x.token) H
 
-abbrev pub LastIf : ℕ → List (ℕ × MessageRecord) → Option Running → Type 0
-LastIf told all None = told ≡ length all
-LastIf told all (Some t) = Last told all t
+abbrev pub ListedIf : Who → ℕ → List Call → Option Running → Type 0
+ListedIf w a H None = Unit {0}
+ListedIf w a H (Some x) = Listed w a H x
 
-last_same : (told : ℕ) (all : List (ℕ × MessageRecord)) (new old : Running) → new.token ≡ old.token
-    → (new.sender.message ≡ old.sender.message) × (new.sender.destination ≡ old.sender.destination) → Last told all old → Last told all new
-last_same told all new old e s h = record {
-  token = e ∙ h.token;
-  last = ap (slice_get all) e ∙ (h.last ∙ (λ i. Some (sym s.1 i, sym s.0 i)));
-  count = ap suc e ∙ h.count;
+grows : (w : Who) (call : Call) (H : List Call) (k : ℕ) (y : ℕ × MessageRecord) → slice_get (all_transfers w H) k ≡ Some y → slice_get (all_transfers w (call ∷ H)) k ≡ Some y
+grows w (At now (Transfer group to bytes (Ok j))) H k y e = get_front (all_transfers w H) ((to, broadcast_from w group bytes) ∷ []) k y e
+grows w call H k y e = e
+
+listed_so : (w : Who) (a : ℕ) (call : Call) (H : List Call) (old new : Running) → Listed w a H old → new.token ≡ old.token → new.sender.message ≡ old.sender.message
+    → tells_transfer old.token call ≡ false → Listed w a (call ∷ H) new
+listed_so w a call H old new h t m n = record {
+  at = ap (slice_get (all_transfers w (call ∷ H))) t ∙ (grows w call H old.token _ h.at ∙ (λ i. Some (a, sym m i)));
+  untold = subst (λ (k : ℕ). NoneTold (tells_transfer k) (call ∷ H)) (sym t) (n, h.untold);
 }
 
-pub hears_token : (lost replaced : Bool) (f : FrameRecord) (now : ℕ) (t : Running) → (hears lost replaced f now t).token ≡ t.token
-hears_token lost replaced f now t = hears_cases (λ (u : Running). u.token ≡ t.token) lost replaced f now t refl (λ z. refl) (λ z. refl)
+listed_map : (w : Who) (a : ℕ) (call : Call) (H : List Call) (g : Running → Running) (o : Option Running) → ((x : Running) → (IsSame x.sender (g x).sender) × ((g x).token ≡ x.token))
+    → ((k : ℕ) → tells_transfer k call ≡ false) → ListedIf w a H o → ListedIf w a (call ∷ H) (option_map g o)
+listed_map w a call H g None k n h = h
+listed_map w a call H g (Some x) k n h = listed_so w a call H x (g x) h (k x).1 (k x).0.1 (n x.token)
 
-last_hears : (told : ℕ) (all : List (ℕ × MessageRecord)) (lost : Bool) (replaced : ℕ → Bool) (f : FrameRecord) (now : ℕ) (o : Option Running)
-    → LastIf told all o → LastIf told all (hears_if lost replaced f now o)
-last_hears told all lost replaced f now None h = h
-last_hears told all lost replaced f now (Some t) h =
-    last_same told all _ t (hears_token lost (replaced t.sender.destination) f now t) (hears_same lost (replaced t.sender.destination) f now t) h
+abbrev Unused : Who → List Call → Type 0
+Unused w H = (k : ℕ) → length (all_transfers w H) ≤ k → NoneTold (tells_transfer k) H
 
-last_sends : (told : ℕ) (all : List (ℕ × MessageRecord)) (b : Bool) (now : ℕ) (o : Option Running) → LastIf told all o → LastIf told all (sends_if b now o)
-last_sends told all false now o h = h
-last_sends told all true now None h = h
-last_sends told all true now (Some t) h = last_same told all (sends now t) t refl (sends_same now t) h
+-- one to another address has another token
+pub other_token : (w : Who) (a b : ℕ) (H : List Call) (x y : Running) → Listed w a H x → Listed w b H y → x.token ≡ y.token → a ≡ b
+other_token w a b H x y h k e =
+    let z : Some (a, x.sender.message) ≡ Some (b, y.sender.message) = sym h.at ∙ (ap (slice_get (all_transfers w H)) e ∙ k.at) in
+    ap (λ (p : ℕ × MessageRecord). p.0) (same_Some _ _ z)
 
-not_engaged : (o : Option Running) (n told : ℕ) (all : List (ℕ × MessageRecord)) → LastIf told all o → is_engaged o n ≡ false → told ≡ length all
-not_engaged o n told all e f = grind (arith, f)
-
-last_opens : (w : Who) (H : List Call) (now group to k : ℕ) (bytes : List ℕ) → Ok k ≡ answer_to_transfer w H now group to bytes
-    → LastIf (length (told_transfers H)) (all_transfers w H) (open_transfer w H)
-    → Last (length (told_transfers H)) (all_transfers w H ++ (to, broadcast_from w group bytes) ∷ []) (begun k (broadcast_from w group bytes) to)
+begun_listed : (w : Who) (H : List Call) (now group to k : ℕ) (bytes : List ℕ) → Unused w H → Listed w to (At now (Transfer group to bytes (Ok k)) ∷ H) (begun_to w H now group to bytes)
 unfolding new_sender
-last_opens w H now group to k bytes e h =
-    let x = transfer_accepts w H now group to k bytes e in
-    let n = x.3 in
-    let t = not_engaged (open_transfer w H) (length (all_transfers w H)) (length (told_transfers H)) (all_transfers w H) h (or_parts (is_engaged (open_transfer w H) (length (all_transfers w H))) (is_resting w H now group to) x.2).0 in
-    record {
-      token = n ∙ sym t;
-      last = ap (slice_get (all_transfers w H ++ (to, broadcast_from w group bytes) ∷ [])) n ∙ get_last (all_transfers w H) (to, broadcast_from w group bytes);
-      count = ap suc n ∙ sym (length_one_more (all_transfers w H) (to, broadcast_from w group bytes));
-    }
+begun_listed w H now group to k bytes free = record {
+  at = get_last (all_transfers w H) (to, broadcast_from w group bytes);
+  untold = (refl, free (length (all_transfers w H)) (omega arith));
+}
 
-last_closes : (told : ℕ) (all : List (ℕ × MessageRecord)) (o : Option Running) (lost : Bool) (x : ℕ × TransferEnding) → LastIf told all o
-    → Some x ≡ transfer_end o lost → suc told ≡ length all
-last_closes told all o lost x e f = grind (arith, f)
+listed_more : (w : Who) (a : ℕ) (H : List Call) (call : Call) (o q : Option Running) → Change w a H call o q → ((b : ℕ) → ListedIf w b H (open_to w b H)) → Unused w H
+    → ListedIf w a H o → ListedIf w a (call ∷ H) q
+listed_more w a H call o q (hears now f x) all free h =
+    listed_map w a (At now (Hear f)) H (heard_open (is_lost (address_after w (At now (Hear f) ∷ H))) (holder w (At now (Hear f) ∷ H)) f (clock_at w H now)) x
+    (λ y. (heard_open_same (is_lost (address_after w (At now (Hear f) ∷ H))) (holder w (At now (Hear f) ∷ H)) f (clock_at w H now) y, heard_open_token (is_lost (address_after w (At now (Hear f) ∷ H))) (holder w (At now (Hear f) ∷ H)) f (clock_at w H now) y)) (λ k. refl) h
+listed_more w a H call o q (claims now f x c m) all free h =
+    listed_map w a (At now (TakeFrame (Some f))) H (leaves_in None (holder w (At now (TakeFrame (Some f)) ∷ H)) (clock_at w H now)) x
+    (λ y. (left_same (holder w (At now (TakeFrame (Some f)) ∷ H)) (clock_at w H now) y, (keeps_left None (holder w (At now (TakeFrame (Some f)) ∷ H)) (clock_at w H now) y).1)) (λ k. refl) h
+listed_more w a H call o q (sends now f s z m) all free h =
+    listed_so w a (At now (TakeFrame (Some f))) H s.running (sent_in_one (clock_at w H now) s.running) h refl (sent_same (clock_at w H now) s.running).1 refl
+listed_more w a H call o q (starts now group to k bytes e z) all free h =
+    subst (λ (n : ℕ). Listed w n (At now (Transfer group to bytes (Ok k)) ∷ H) (begun_to w H now group to bytes)) z
+    (begun_listed w H now group to k bytes free)
+listed_more w a H call o q (ends e t z) all free h = tt
+listed_more w a H call None q (stays c x b m n i t u) all free h = h
+listed_more w a H call (Some y) q (stays c x b m n i t u) all free h =
+    listed_so w a c H y y h refl refl (go c t)
+  where
+    go : (d : Call) → ((e : ℕ × TransferEnding) → d ≡ TakeTransferEnded (Some e) → (t : Told w H e) × (to_whom t.running ≢ a)) → tells_transfer y.token d ≡ false
+    go (TakeTransferEnded (Some e)) t =
+        let r = t e refl in
+        ne_eqb e.0 y.token (λ z. r.1 (other_token w (to_whom r.0.running) a H r.0.running y (subst (ListedIf w (to_whom r.0.running) H) r.0.is (all (to_whom r.0.running))) h (r.0.token ∙ z)))
+    go d t = refl
 
-pub last_one : (w : Who) (H : List Call) → AreAnswered w H → LastIf (length (told_transfers H)) (all_transfers w H) (open_transfer w H)
-last_one w [] e = refl
-last_one w (At when (Hear f) ∷ H) e =
-    last_hears _ _ (is_lost (address_after w (At when (Hear f) ∷ H))) (λ a. is_replaced (holder w H a) (holder w (At when (Hear f) ∷ H) a)) f (clock_at H when) (open_transfer w H)
-    (last_one w H e.0)
-last_one w (At now (TakeFrame (Some f)) ∷ H) e = last_sends _ _ (is_move w H f) (clock_at H now) (open_transfer w H) (last_one w H e.0)
-last_one w (At now (Transfer group to bytes (Ok k)) ∷ H) e = last_opens w H now group to k bytes e.1 (last_one w H e.0)
-last_one w (TakeTransferEnded (Some x) ∷ H) e =
-    length_one_more (told_transfers H) x ∙ last_closes (length (told_transfers H)) (all_transfers w H) (open_transfer w H) (is_lost (address_after w H)) x (last_one w H e.0) e.1
-last_one w (call ∷ H) e = last_one w H e.0
+pub accounted : (w : Who) (H : List Call) → AreAnswered w H → ((a : ℕ) → ListedIf w a H (open_to w a H)) × Unused w H
+accounted w [] e = (λ a. subst (ListedIf w a []) (sym (none_first w a e)) tt, λ k l. tt)
+accounted w (call ∷ H) e =
+    let h = accounted w H e.0 in
+    (λ a. listed_more w a H call (open_to w a H) (open_to w a (call ∷ H)) (change w a call H e) h.0 h.1 (h.0 a), go call e.1 h.0 h.1)
+  where
+    go : (call : Call) → Rattle.j39_node.specs.Is.IsAnswered w H call → ((a : ℕ) → ListedIf w a H (open_to w a H)) → Unused w H → Unused w (call ∷ H)
+    go (At now (Transfer group to bytes (Ok j))) i all free = λ k l. (refl, free k (let n = length_one_more (all_transfers w H) (to, broadcast_from w group bytes) in omega (arith, l, n)))
+    go (TakeTransferEnded (Some x)) i all free = λ k l.
+        let t = open_told w H x i in
+        let p = subst (ListedIf w (to_whom t.running) H) t.is (all (to_whom t.running)) in
+        let b = slice_get_within (all_transfers w H) t.running.token _ p.at in
+        let d = t.token in
+        (ne_eqb x.0 k (λ z. omega (arith, b, d, l, z)), free k l)
+    go call i all free = λ k l. (refl, free k l)
 
-pub last_open : (w : Who) (H : List Call) (t : Running) → AreAnswered w H → open_transfer w H ≡ Some t → Last (length (told_transfers H)) (all_transfers w H) t
-last_open w H t right e = subst (LastIf (length (told_transfers H)) (all_transfers w H)) e (last_one w H right)
+pub listed : (w : Who) (a : ℕ) (H : List Call) (x : Running) → AreAnswered w H → open_to w a H ≡ Some x → Listed w a H x
+listed w a H x right e = subst (ListedIf w a H) e ((accounted w H right).0 a)
 
--- ---- since when something is so of the open transfer
+-- ---- since when something is so of it
 
-pub later_on : (So : List Call → Call → Type 0) (H : List Call) (call : Call) → begins call ≡ false → Happened So H → Happened So (call ∷ H)
-later_on So H call b h = record {
+pub later_on : (a : ℕ) (So : List Call → Call → Type 0) (H : List Call) (call : Call) → begins a call ≡ false → Happened a So H → Happened a So (call ∷ H)
+later_on a So H call b h = record {
   later = call ∷ h.later;
   call = h.call;
   earlier = h.earlier;
@@ -170,68 +191,48 @@ later_on So H call b h = record {
   so = h.so;
 }
 
-now_so : (So : List Call → Call → Type 0) (H : List Call) (call : Call) → So H call → Happened So (call ∷ H)
-now_so So H call s = record { later = []; call = call; earlier = H; is = refl; since = tt; so = s }
+now_so : (a : ℕ) (So : List Call → Call → Type 0) (H : List Call) (call : Call) → So H call → Happened a So (call ∷ H)
+now_so a So H call s = record { later = []; call = call; earlier = H; is = refl; since = tt; so = s }
 
 -- what isn't so of a transfer that begins, and is so after a call where it was before, or where the call says so
-pub record Arises (w : Who) (Q : Running → Type 0) (So : ℕ → MessageRecord → List Call → Call → Type 0) : Type 0 where
-  pub begins_not : (token : ℕ) (m : MessageRecord) (to : ℕ) → Q (begun token m to) → ⊥
-  pub by_hearing : (H : List Call) (when : ℕ) (f : FrameRecord) (t : Running) → AreAnswered w H → open_transfer w H ≡ Some t
-      → Q (hears (is_lost (address_after w (At when (Hear f) ∷ H))) (is_replaced (holder w H t.sender.destination) (holder w (At when (Hear f) ∷ H) t.sender.destination)) f (clock_at H when) t)
-      → Q t ⊎ So t.sender.destination t.sender.message H (At when (Hear f))
-  pub by_sending : (H : List Call) (now : ℕ) (f : FrameRecord) (t : Running) (a : Signal) → AreAnswered w H → open_transfer w H ≡ Some t
-      → signal_by t (clock_at H now) ≡ Some a → message_of f ≡ says t.sender a → Q (sends (clock_at H now) t)
-      → Q t ⊎ So t.sender.destination t.sender.message H (At now (TakeFrame (Some f)))
+pub record Arises (w : Who) (a : ℕ) (Q : Running → Type 0) (So : MessageRecord → List Call → Call → Type 0) : Type 0 where
+  pub begins_not : (H : List Call) (now group : ℕ) (bytes : List ℕ) → Q (begun_to w H now group a bytes) → ⊥
+  pub by_hearing : (H : List Call) (when : ℕ) (f : FrameRecord) (x : Running) → AreAnswered w H → open_to w a H ≡ Some x
+      → Q (heard_open (is_lost (address_after w (At when (Hear f) ∷ H))) (holder w (At when (Hear f) ∷ H)) f (clock_at w H when) x)
+      → Q x ⊎ So x.sender.message H (At when (Hear f))
+  pub by_claiming : (H : List Call) (now : ℕ) (f : FrameRecord) (x : Running) → AreAnswered w H → open_to w a H ≡ Some x
+      → Q (leaves_in None (holder w (At now (TakeFrame (Some f)) ∷ H)) (clock_at w H now) x) → Q x ⊎ So x.sender.message H (At now (TakeFrame (Some f)))
+  pub by_sending : (H : List Call) (now : ℕ) (f : FrameRecord) (s : Sent w H now f) → AreAnswered w H → to_whom s.running ≡ a → Q (sent_in_one (clock_at w H now) s.running)
+      → Q s.running ⊎ So s.running.sender.message H (At now (TakeFrame (Some f)))
 
-abbrev Traced : (ℕ → MessageRecord → List Call → Call → Type 0) → Running → List Call → Type 0
-Traced So t H = Happened (So t.sender.destination t.sender.message) H
+module _ (w : Who) (a : ℕ) (Q : Running → Type 0) (So : MessageRecord → List Call → Call → Type 0) (arises : Arises w a Q So) where
+  arose : (H : List Call) (call : Call) (old new : Running) → begins a call ≡ false → new.sender.message ≡ old.sender.message → Q old ⊎ So old.sender.message H call
+      → (Q old → Happened a (So old.sender.message) H) → Happened a (So new.sender.message) (call ∷ H)
+  arose H call old new b m (inl q) rec = subst (λ (y : MessageRecord). Happened a (So y) (call ∷ H)) (sym m) (later_on a (So old.sender.message) H call b (rec q))
+  arose H call old new b m (inr s) rec = subst (λ (y : MessageRecord). Happened a (So y) (call ∷ H)) (sym m) (now_so a (So old.sender.message) H call s)
 
-traced_same : (So : ℕ → MessageRecord → List Call → Call → Type 0) (new old : Running) (H : List Call)
-    → (new.sender.message ≡ old.sender.message) × (new.sender.destination ≡ old.sender.destination) → Traced So old H → Traced So new H
-traced_same So new old H s h =
-    subst (λ (m : MessageRecord). Happened (So new.sender.destination m) H) (sym s.0)
-    (subst (λ (d : ℕ). Happened (So d old.sender.message) H) (sym s.1) h)
+  traced_more : (H : List Call) (call : Call) (o q : Option Running) → Change w a H call o q → (x : Running) → AreAnswered w H → open_to w a H ≡ o → q ≡ Some x → Q x
+      → ((u : Running) → o ≡ Some u → Q u → Happened a (So u.sender.message) H) → Happened a (So x.sender.message) (call ∷ H)
+  traced_more H call o q (hears now f None) x right g e p rec = absurd (cc)
+  traced_more H call o q (hears now f (Some u)) x right g e p rec =
+      let y = heard_open (is_lost (address_after w (At now (Hear f) ∷ H))) (holder w (At now (Hear f) ∷ H)) f (clock_at w H now) u in
+      let z = same_Some y x e in
+      arose H (At now (Hear f)) u x refl (ap (λ (v : Running). v.sender.message) (sym z) ∙ (heard_open_same (is_lost (address_after w (At now (Hear f) ∷ H))) (holder w (At now (Hear f) ∷ H)) f (clock_at w H now) u).1) (arises.by_hearing H now f u right g (subst Q (sym z) p)) (rec u refl)
+  traced_more H call o q (claims now f None c m) x right g e p rec = absurd (cc)
+  traced_more H call o q (claims now f (Some u) c m) x right g e p rec =
+      let y = leaves_in None (holder w (At now (TakeFrame (Some f)) ∷ H)) (clock_at w H now) u in
+      let z = same_Some y x e in
+      arose H (At now (TakeFrame (Some f))) u x refl (ap (λ (v : Running). v.sender.message) (sym z) ∙ (left_same (holder w (At now (TakeFrame (Some f)) ∷ H)) (clock_at w H now) u).1) (arises.by_claiming H now f u right g (subst Q (sym z) p)) (rec u refl)
+  traced_more H call o q (sends now f s i m) x right g e p rec =
+      let z = same_Some (sent_in_one (clock_at w H now) s.running) x e in
+      arose H (At now (TakeFrame (Some f))) s.running x refl (ap (λ (v : Running). v.sender.message) (sym z) ∙ (sent_same (clock_at w H now) s.running).1)
+      (arises.by_sending H now f s right i (subst Q (sym z) p)) (rec s.running refl)
+  traced_more H call o q (starts now group to k bytes i z) x right g e p rec =
+      absurd (arises.begins_not H now group bytes (subst (λ (n : ℕ). Q (begun_to w H now group n bytes)) z (subst Q (sym (same_Some (begun_to w H now group to bytes) x e)) p)))
+  traced_more H call o q (ends i t z) x right g e p rec = absurd (cc)
+  traced_more H call o q (stays c y b m n i t u) x right g e p rec = later_on a (So x.sender.message) H c b (rec x e p)
 
-trace_hears : (w : Who) (Q : Running → Type 0) (So : ℕ → MessageRecord → List Call → Call → Type 0) (H : List Call) (when : ℕ) (f : FrameRecord) (t : Running) (o : Option Running)
-    → Arises w Q So → AreAnswered w H → open_transfer w H ≡ o
-    → hears_if (is_lost (address_after w (At when (Hear f) ∷ H))) (λ a. is_replaced (holder w H a) (holder w (At when (Hear f) ∷ H) a)) f (clock_at H when) o ≡ Some t → Q t
-    → ((u : Running) → open_transfer w H ≡ Some u → Q u → Traced So u H) → Traced So t (At when (Hear f) ∷ H)
-trace_hears w Q So H when f t None arises right e g q rec = absurd (cc)
-trace_hears w Q So H when f t (Some u) arises right e g q rec =
-    let lost = is_lost (address_after w (At when (Hear f) ∷ H)) in
-    let replaced = is_replaced (holder w H u.sender.destination) (holder w (At when (Hear f) ∷ H) u.sender.destination) in
-    let z : hears lost replaced f (clock_at H when) u ≡ t = cc in
-    subst (λ (x : Running). Traced So x (At when (Hear f) ∷ H)) z
-    (traced_same So (hears lost replaced f (clock_at H when) u) u (At when (Hear f) ∷ H) (hears_same lost replaced f (clock_at H when) u)
-    (elim (arises.by_hearing H when f u right e (subst Q (sym z) q)) [
-      | inl x ↦ later_on (So u.sender.destination u.sender.message) H (At when (Hear f)) refl (rec u e x)
-      | inr x ↦ now_so (So u.sender.destination u.sender.message) H (At when (Hear f)) x
-    ]))
-
-trace_sends : (w : Who) (Q : Running → Type 0) (So : ℕ → MessageRecord → List Call → Call → Type 0) (H : List Call) (now : ℕ) (f : FrameRecord) (t : Running) (b : Bool)
-    → Arises w Q So → AreAnswered w H → FrameCase w H now f → is_move w H f ≡ b → sends_if b (clock_at H now) (open_transfer w H) ≡ Some t → Q t
-    → ((u : Running) → open_transfer w H ≡ Some u → Q u → Traced So u H) → Traced So t (At now (TakeFrame (Some f)) ∷ H)
-trace_sends w Q So H now f t false arises right case e g q rec =
-    later_on (So t.sender.destination t.sender.message) H (At now (TakeFrame (Some f))) refl (rec t g q)
-trace_sends w Q So H now f t true arises right case e g q rec =
-    let s = sent_case w H now f right case e in
-    let u = s.running in
-    let g2 : sends_if true (clock_at H now) (Some u) ≡ Some t = ap (sends_if true (clock_at H now)) (sym s.is) ∙ g in
-    let z : sends (clock_at H now) u ≡ t = cc in
-    subst (λ (x : Running). Traced So x (At now (TakeFrame (Some f)) ∷ H)) z
-    (traced_same So (sends (clock_at H now) u) u (At now (TakeFrame (Some f)) ∷ H) (sends_same (clock_at H now) u)
-    (elim (arises.by_sending H now f u s.signal right s.is s.said s.frame (subst Q (sym z) q)) [
-      | inl x ↦ later_on (So u.sender.destination u.sender.message) H (At now (TakeFrame (Some f))) refl (rec u s.is x)
-      | inr x ↦ now_so (So u.sender.destination u.sender.message) H (At now (TakeFrame (Some f))) x
-    ]))
-
-pub traced : (w : Who) (Q : Running → Type 0) (So : ℕ → MessageRecord → List Call → Call → Type 0) → Arises w Q So → (H : List Call) (t : Running) → AreAnswered w H
-    → open_transfer w H ≡ Some t → Q t → Happened (So t.sender.destination t.sender.message) H
-traced w Q So arises [] t right e q = absurd (cc)
-traced w Q So arises (At when (Hear f) ∷ H) t right e q = trace_hears w Q So H when f t (open_transfer w H) arises right.0 refl e q (λ u k. traced w Q So arises H u right.0 k)
-traced w Q So arises (At now (TakeFrame (Some f)) ∷ H) t right e q =
-    trace_sends w Q So H now f t (is_move w H f) arises right.0 (frame_case w H now f right.1) refl e q (λ u k. traced w Q So arises H u right.0 k)
-traced w Q So arises (At now (Transfer group to bytes (Ok k)) ∷ H) t right e q =
-    let z : begun k (broadcast_from w group bytes) to ≡ t = cc in absurd (arises.begins_not k (broadcast_from w group bytes) to (subst Q (sym z) q))
-traced w Q So arises (TakeTransferEnded (Some x) ∷ H) t right e q = absurd (cc)
-traced w Q So arises (call ∷ H) t right e q = later_on _ H _ refl (traced w Q So arises H t right.0 e q)
+  pub traced : (H : List Call) (x : Running) → AreAnswered w H → open_to w a H ≡ Some x → Q x → Happened a (So x.sender.message) H
+  traced [] x right e q = absurd (let z = sym (none_first w a right) ∙ e in cc)
+  traced (call ∷ H) x right e q =
+      traced_more H call (open_to w a H) (open_to w a (call ∷ H)) (change w a call H right) x right.0 refl e q (λ u k p. traced H u right.0 k p)

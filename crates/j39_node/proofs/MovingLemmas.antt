@@ -1,5 +1,6 @@
 -- When a controller may move, by what it has; and what it is then.
-use Rattle.j39_node.proofs.Common.{[], accepted, and_parts, ap, arith, asked_by, AskEnding, asking_of, Bool, Call, Claim, Claims, Controller, eqb-true, false, got, handed, has_given, has_told, HasMoved, hearing_of, HearingRecord, hold_after, hold_moved, holder_in, incoming_of, IncomingRecord, Is, IsHolderAfter, IsLeastFree, IsSettled, kept, Knows, lane_of, later, length, length-map, List, loses, map, message_by, moment, moved, name_raw, nat_eq, news_of, None, none_of, NoneFree, not, Option, option_map, port_of, PortRecord, posted, Question, received_by, refl, refusal_by, request_by, requests, rest, sender_by, subst, sym, told, told_claims, true, Untold, View, Who, ℕ, ◌&&◌, ◌+◌, ◌-◌, ◌<◌, ◌||◌, ◌∙◌, ◌∷◌, ◌≡◌, ◌≢◌, ◌≤◌}
+use Rattle.j39_node.proofs.Common.{[], accepted, and_parts, ap, arith, asked_by, AskEnding, asking_of, Bool, Call, Claim, Claims, Controller, eqb-true, false, got, handed, has_given, has_told, HasMoved, hearing_of, HearingRecord, hold_after, hold_moved, holder_in, incoming_of, IncomingRecord, Is, IsHolderAfter, IsLeastFree, IsSettled, kept, Knows, lane_of, later, length, length-map, List, loses, map, message_by, moment, moved, name_raw, nat_eq, news_of, None, none_of, NoneFree, not, Option, option_map, port_of, PortRecord, posted, Question, received_by, refl, refusal_by, request_by, requests, sender_by, subst, sym, told, told_claims, true, Untold, View, Who, ℕ, ◌&&◌, ◌+◌, ◌-◌, ◌<◌, ◌||◌, ◌∙◌, ◌∷◌, ◌≡◌, ◌≢◌, ◌≤◌, age, At, min, ltb-true, nat_lt, transfers_at}
+use Rattle.j39_transfers.specs.Transfers.{can_move, moves}
 use Rattle.j39_node.specs.Boxes.{in_box}
 use Rattle.std.specs.Option.{is_some}
 use Rattle.j39_node.specs.Moving.{begun}
@@ -48,13 +49,18 @@ none_waits n (x ∷ xs) e g = absurd (let z = eqb-true n 0 g in omega (arith, e,
 
 -- ---- all of them
 
-pub settles : (w : Who) (H : List Call) (c : Controller) → Is w H c → (has_told c && has_given c) ≡ true → IsSettled w H
-settles w H c h e =
+-- none is open where it may move
+pub moves_from : (w : Who) (H : List Call) (c : Controller) (a : ℕ) → Is w H c → can_move a (port_of c.transfers).state ≡ true → (a < 254) × ((transfers_at w H).running ≡ [])
+moves_from w H c a h m =
+    let p = and_parts (nat_lt a 254) _ (ap (λ (v : View). can_move a v.port.state) (sym h.shown) ∙ m) in
+    (ltb-true _ _ p.0, none_waits _ _ refl p.1)
+
+pub settles : (w : Who) (H : List Call) (c : Controller) (a : ℕ) → Is w H c → (has_told c && has_given c) ≡ true → can_move a (port_of c.transfers).state ≡ true → IsSettled w H
+settles w H c a h e m =
     let s = sound w H h.answered in
     let p = and_parts _ _ e in
     let t = and_parts _ _ p.0 in
     let t2 = and_parts _ _ t.1 in
-    let t3 = and_parts _ _ t2.1 in
     let g = and_parts _ _ p.1 in
     let g2 = and_parts _ _ g.1 in
     let g3 = and_parts _ _ g2.1 in
@@ -62,8 +68,8 @@ settles w H c h e =
     record {
       messages = empty_is _ _ _ (length_rest posted c.outgoing.items (length (told H)) (accepted w H) (ap (λ (v : View). v.outgoing) h.shown)) s.within t.0;
       broadcast = sym (ap (λ (v : View). v.lane.current) h.shown) ∙ none_is _ _ t2.0;
-      transfer = sym (ap (λ (v : View). v.port.current) h.shown) ∙ none_is _ _ t3.0;
-      request = asked_none _ _ _ (sym (ap (λ (v : View). v.asking) h.shown) ∙ none_is _ _ t3.1);
+      transfer = (moves_from w H c a h m).1;
+      request = asked_none _ _ _ (sym (ap (λ (v : View). v.asking) h.shown) ∙ none_is _ _ t2.1);
       received = empty_is _ _ _ (length_rest received_by c.inbox.unread.items (length (got H)) (kept w H) (ap (λ (v : View). v.unread) h.shown)) (read w H s) g.0;
       requests_taken = empty_is _ _ _ (length_rest request_by c.desk.waiting.items (length (handed H)) (requests w H) (ap (λ (v : View). v.requests) h.shown)) (front_length _ _ s.desk.2) g2.0;
       received_transfer = none_waits _ _ (ap (λ (v : View). length v.incoming.reception.waits) h.shown) g3.0;
@@ -80,8 +86,13 @@ nothing v (x ∷ xs) e = absurd (let z = eqb-true _ _ e in omega (arith, z))
 none_untold : (u : Untold) → not (u.lost || (u.another || (is_some u.doubled || u.missed))) ≡ true → u ≡ record { lost = false; another = false; doubled = None; missed = false }
 none_untold u e = grind (arith, e)
 
-brought_on : (m r : ℕ) → r ≡ m + r - (m - 0)
-brought_on m r = omega arith
+aged : (w : Who) (H : List Call) → moment H ≤ age w H
+aged w [] = omega arith
+aged w (At now act ∷ H) = let h = aged w H in omega (arith, h)
+aged w (call ∷ H) = aged w H
+
+brought_on : (m n : ℕ) → m ≤ n → min n 18446744073709551615 ≡ min (n - m + (m - 0)) 18446744073709551615
+brought_on m n l = omega (arith, l)
 
 none_less : (m : ℕ) → m ≡ m - 0
 none_less m = omega arith
@@ -103,18 +114,18 @@ zero_less : (n : ℕ) → 0 ≡ 0 - n
 zero_less n = omega arith
 
 pub begins_anew : (w : Who) (H : List Call) (old new : Controller) (a : ℕ) → Is w H old → (has_told old && has_given old) ≡ true
-    → new.own.name ≡ old.own.name → new.own.address ≡ a → new.own.delay ≡ old.own.delay → new.own.served.items ≡ old.own.served.items → new.own.subscribed ≡ old.own.subscribed → new.own.boxes ≡ old.own.boxes → new.own.sessions ≡ old.own.sessions → new.own.window ≡ old.own.window
+    → new.own.name ≡ old.own.name → new.own.address ≡ a → new.own.delay ≡ old.own.delay → new.own.served.items ≡ old.own.served.items → new.own.subscribed ≡ old.own.subscribed → new.own.boxes ≡ old.own.boxes → new.own.sessions ≡ old.own.sessions → new.own.transfers ≡ old.own.transfers → new.own.window ≡ old.own.window
     → new.hold ≡ hold_moved old.hold
     → new.outgoing ≡ old.outgoing → new.taken ≡ 0 → new.next_token ≡ 0 → new.asking ≡ old.asking → new.inbox.unread ≡ old.inbox.unread → new.inbox.missed ≡ 0
     → new.desk.waiting ≡ old.desk.waiting → new.desk.due.items ≡ [] → new.news ≡ old.news → new.holders ≡ old.holders
     → new.lane ≡ record { current = None; count = 0; next_token = 0 }
     → incoming_of new.incoming ≡ record { moment = old.hold.moment; clock = later 0 old.hold.moment; called = record { left = 0; whose = 0 }; reception = record (loses (incoming_of old.incoming).reception) { own = a } }
-    → port_of new.transfers ≡ record { current = None; next_token = 0; resting = (port_of old.transfers).resting } → ((hearing_of old.hearing).listening.waits ≡ [] → hearing_of new.hearing ≡ record { listening = record { current = []; waits = [] }; boxes = (hearing_of old.hearing).boxes; missed = 0 }) → new.hearing.whole ≡ old.hearing.whole
+    → port_of new.transfers ≡ record { state = moves a (port_of old.transfers).state; next_token = 0 } → can_move a (port_of old.transfers).state ≡ true → ((hearing_of old.hearing).listening.waits ≡ [] → hearing_of new.hearing ≡ record { listening = record { current = []; waits = [] }; boxes = (hearing_of old.hearing).boxes; missed = 0 }) → new.hearing.whole ≡ old.hearing.whole
     → HasMoved w H a new
-begins_anew w H old new a h e o1 o2 o5 o3 o4 o6 o7 o8 q1 q2 q3 q4 q5 q6 q7 q8 q9 q10 q11 q12 q15 q16 q18 q20 =
+begins_anew w H old new a h e o1 o2 o5 o3 o4 o6 o7 o9 o8 q1 q2 q3 q4 q5 q6 q7 q8 q9 q10 q11 q12 q15 q16 q17 q18 q20 =
     let p = and_parts _ _ e in
     let t = and_parts _ _ p.0 in
-    let t3 = and_parts _ _ (and_parts _ _ t.1).1 in
+    let t3 = and_parts _ _ t.1 in
     let g = and_parts _ _ p.1 in
     let g2 = and_parts _ _ g.1 in
     let g3 = and_parts _ _ g2.1 in
@@ -123,8 +134,8 @@ begins_anew w H old new a h e o1 o2 o5 o3 o4 o6 o7 o8 q1 q2 q3 q4 q5 q6 q7 q8 q9
     let boxes = ap (λ (v : View). v.incoming.reception.boxes) h.shown ∙ (own w H).1 in
     record {
       shown = λ i. record {
-        who = record { name = (ap name_raw o1 ∙ ap (λ (v : View). v.who.name) h.shown) i; address = o2 i; delay = (o5 ∙ ap (λ (v : View). v.who.delay) h.shown) i; served = (o3 ∙ ap (λ (v : View). v.who.served) h.shown) i; subscribed = (ap (option_map (λ g. g.items)) o4 ∙ ap (λ (v : View). v.who.subscribed) h.shown) i; boxes = (o6 ∙ ap (λ (v : View). v.who.boxes) h.shown) i; sessions = (o7 ∙ ap (λ (v : View). v.who.sessions) h.shown) i; window = (o8 ∙ ap (λ (v : View). v.who.window) h.shown) i; brought = (moved w H a).brought };
-        hold = (q1 ∙ (ap (λ (v : View). hold_moved v.hold) h.shown ∙ (λ i. record (hold_after (moved w H a) (begun H)) { rest = brought_on (moment H) (rest w H) i }))) i;
+        who = record { name = (ap name_raw o1 ∙ ap (λ (v : View). v.who.name) h.shown) i; address = o2 i; delay = (o5 ∙ ap (λ (v : View). v.who.delay) h.shown) i; served = (o3 ∙ ap (λ (v : View). v.who.served) h.shown) i; subscribed = (ap (option_map (λ g. g.items)) o4 ∙ ap (λ (v : View). v.who.subscribed) h.shown) i; boxes = (o6 ∙ ap (λ (v : View). v.who.boxes) h.shown) i; sessions = (o7 ∙ ap (λ (v : View). v.who.sessions) h.shown) i; transfers = (o9 ∙ ap (λ (v : View). v.who.transfers) h.shown) i; window = (o8 ∙ ap (λ (v : View). v.who.window) h.shown) i; brought = (moved w H a).brought };
+        hold = (q1 ∙ (ap (λ (v : View). hold_moved v.hold) h.shown ∙ (λ i. record (hold_after (moved w H a) (begun H)) { age = brought_on (moment H) (age w H) (aged w H) i }))) i;
         outgoing = (ap (λ x. map posted x.items) q2 ∙ nothing posted old.outgoing.items t.0) i;
         taken = q3 i;
         token = q4 i;
@@ -139,10 +150,10 @@ begins_anew w H old new a h e o1 o2 o5 o3 o4 o6 o7 o8 q1 q2 q3 q4 q5 q6 q7 q8 q9
         incoming = (q15
             ∙ ((λ i. (let m = (h.shown i).hold.moment in let x : IncomingRecord = record { moment = m; clock = later 0 m; called = record { left = 0; whose = 0 }; reception = none_there old.incoming.sessions a w.window w.sessions a g3.0 most boxes i } in x))
             ∙ (λ i. (let x : IncomingRecord = record { moment = moment H; clock = later 0 (none_less (moment H) i); called = record { left = zero_less (moment H - 0) i; whose = 0 }; reception = none_of a w.window w.sessions } in x)))) i;
-        port = (q16 ∙ ap (λ (v : View). (let q : PortRecord = record { current = None; next_token = 0; resting = v.port.resting } in q)) h.shown) i;
+        port = (q16 ∙ ap (λ (v : View). (let q : PortRecord = record { state = moves a v.port.state; next_token = 0 } in q)) h.shown) i;
         hearing = (q18 (nothing (λ b. message_by (in_box b)) old.hearing.whole.items g4.0) ∙ ap (λ (v : View). (let x : HearingRecord = record { listening = record { current = []; waits = [] }; boxes = v.hearing.boxes; missed = 0 } in x)) h.shown) i;
         broadcast_senders = (ap (λ v. map (λ b. (in_box b).name) v.items) q20 ∙ nothing (λ b. (in_box b).name) old.hearing.whole.items g4.0) i;
       };
-      answered = (tt, tt);
+      answered = (moves_from w H old a h q17, tt);
       holders = subst (λ t. Knows t (told_claims w H)) (sym q11) h.holders;
     }

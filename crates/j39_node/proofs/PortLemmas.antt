@@ -1,89 +1,182 @@
--- The open transfer of an answered history goes from the address to another's.
-use Rattle.j39_node.proofs.Common.{[], ◌<◌, ◌||◌, ◌∙◌, ◌∷◌, ◌≡◌, ◌⊎◌, aborted, address_after, answer_to_transfer, ap, AreAnswered, arith, At, Bool, both, Call, can_broadcast, Claims, clock_at, false, FrameRecord, gives_up, group_with, Hear, hears, hears_if, holder, holder_in, IfSome, inl, inr, is_lost, is_move, is_replaced, is_running, is_some, is_spent, Knows, List, listens, ltb-true, Message, min, nat_lt, new_sender, None, Ok, open_transfer, Option, Packet, PortRecord, refl, Running, said_between, says, send_step, SenderRecord, SendEvent, sends, sends_if, Signal, signal_by, Some, subst, sym, TakeFrame, TakeTransferEnded, told_claims, Transfer, transfer_by, transport_control_group, transport_data_group, true, Who, ℕ, cond_both, ne_eqb}
-use Rattle.j39_transport.specs.Sending.{Heard, Tick}
-use Rattle.j39_transport.specs.Sending as sending
-use Rattle.j39_transport.proofs.SenderLemmas.{ticked, hears_signal}
-use Rattle.j39_node.proofs.ReceptionLemmas.{table_is}
-use Rattle.j39_node.proofs.AnswerCases.{transfer_accepts}
+-- The transfers of an answered history go from the address to others'.
+use Rattle.j39_node.proofs.Common.{[], ◌&&◌, ◌++◌, ◌<◌, ◌||◌, ◌∙◌, ◌∷◌, ◌≡◌, ◌⊎◌, address_after, answer, ap, AreAnswered, arith, At, Bool, both, breaks, Call, can_broadcast, carried_by, clock_at, cond_both, false, FrameRecord, gives_up, group_with, Hear, heard_events, heard_in_one, holder, if◌then◌else◌, inl, inr, is_claim, is_lost, is_move, is_over, is_some, is_spent, is_tried, IsFresh, leaves_in, length, List, listens, lt-ltb, ltb-true, map, Message, min, nat_eq, nat_lt, ne_eqb, new_sender, next_transfer, None, option_map, Option, order, Packet, refl, Running, says, SenderRecord, sent_by, sent_in_one, Signal, signal_by, Some, subst, sym, TakeFrame, taken_events, TakeTransferEnded, to_whom, Transfer, transfer_events, transfers_at, TransfersRecord, transport_control_group, transport_data_group, tried_events, true, Who, written, ℕ, all_transfers}
+use Rattle.j39_transport.specs.Sending.{aborted, send_step, Tick}
+use Rattle.j39_transfers.specs.Events.{after, AreApart, Begins, Leaves, Sends, step}
+use Rattle.j39_transfers.specs.Transfers.{begun, can_move, frame_by, is_first, is_left, listed, Order, others, turn}
+use Rattle.j39_transfers.specs.declared.kinds.Ending.{Ending}
+use Rattle.j39_transfers.specs.declared.kinds.Ending.TheVariants as how
+use Rattle.j39_transfers.proofs.StepLemmas.{IsSame, same_aborted, same_heard_step, same_ticked}
+use Rattle.j39_transfers.proofs.LawLemmas.{begun_split, each_apart}
+use Rattle.j39_node.proofs.AnswerCases.{transfer_tried}
 use Rattle.j39_node.proofs.QueueLemmas.{mapped_some}
+use Rattle.std.specs.List.{find}
+
+pub fresh_of : (w : Who) (H : List Call) → AreAnswered w H → w.address < 254
+fresh_of w [] e = e.0
+fresh_of w (call ∷ H) e = fresh_of w H e.0
 
 -- ---- a step keeps message and destination
 
-keeps_heard : (s : SenderRecord) (o : Option Signal) (now : ℕ) → ((sending.hears o now s).message ≡ s.message) × ((sending.hears o now s).destination ≡ s.destination)
-unfolding sending.hears
-keeps_heard s None now = (refl, refl)
-keeps_heard s (Some a) now = let h = hears_signal s a now in (h.message_is, h.destination_is)
+abbrev Same : Running → Running → Type 0
+Same old new = IsSame old.sender new.sender
 
-pub keeps : (s : SenderRecord) (e : SendEvent) (now : ℕ) → ((send_step s e now).after.message ≡ s.message) × ((send_step s e now).after.destination ≡ s.destination)
-unfolding send_step
-keeps s Tick now = let h = ticked s s.state now refl in (h.message_is, h.destination_is)
-keeps s (Heard f) now = keeps_heard s (said_between s.destination s.message.source f) now
+pub heard_same : (f : FrameRecord) (now : ℕ) (x : Running) → IsSame x.sender (heard_in_one f now x).sender
+heard_same f now x = cond_both (is_over x || is_spent x) x (listens f now x) (Same x) (λ e. (refl, refl)) (λ e. same_heard_step x.sender f now)
 
--- ---- between which addresses the open transfer goes
+pub broken_same : (e : Ending) (now : ℕ) (x : Running) → IsSame x.sender (breaks e now x).sender
+broken_same e now x = cond_both (is_over x) x (record x { broken = Some e; last = now }) (Same x) (λ i. (refl, refl)) (λ i. (refl, refl))
+
+pub left_same : (holder : ℕ → Option ℕ) (now : ℕ) (x : Running) → IsSame x.sender (leaves_in None holder now x).sender
+left_same holder now x =
+    cond_both (is_left None holder x) (breaks how.Gone now x) (record x { name = holder (to_whom x) }) (Same x) (λ e. broken_same how.Gone now x) (λ e. (refl, refl))
+
+pub sent_same : (now : ℕ) (x : Running) → IsSame x.sender (sent_in_one now x).sender
+sent_same now x = cond_both (gives_up x) (aborted 5 x.sender) (send_step x.sender Tick now).after (IsSame x.sender) (λ e. same_aborted 5 x.sender) (λ e. same_ticked x.sender now)
+
+-- ---- between which addresses they go
 
 pub record Between (w : Who) (x : Running) : Type 0 where
   pub source : x.sender.message.source ≡ w.address
-  pub directed : x.sender.destination < 254
+  pub directed : to_whom x < 254
 
-abbrev pub Ported : Who → Option Running → Type 0
-Ported w None = Unit {0}
-Ported w (Some x) = Between w x
-
--- what became of it goes between the same
-abbrev Same : SenderRecord → SenderRecord → Type 0
-Same new old = (new.message ≡ old.message) × (new.destination ≡ old.destination)
-
-pub gives_up_same : (s : SenderRecord) (reason : ℕ) → Same (aborted reason s) s
-unfolding aborted
-gives_up_same s reason = cond_both (is_running s.state) _ _ (λ (r : SenderRecord). Same r s) (λ z. (refl, refl)) (λ z. (refl, refl))
-
--- a frame that is heard leaves it, or makes it gone, or its sender listens
-pub hears_cases : (P : Running → Type 0) (lost replaced : Bool) (f : FrameRecord) (now : ℕ) (t : Running) → P t → (replaced ≡ true → P (record t { gone = true }))
-    → ((t.gone || is_spent t) ≡ false → P (listens f now t)) → P (hears lost replaced f now t)
-hears_cases P true replaced f now t left gone heard = left
-hears_cases P false true f now t left gone heard = gone refl
-hears_cases P false false f now t left gone heard = cond_both (t.gone || is_spent t) t (listens f now t) P (λ z. left) heard
-
-pub hears_same : (lost replaced : Bool) (f : FrameRecord) (now : ℕ) (t : Running) → Same (hears lost replaced f now t).sender t.sender
-hears_same lost replaced f now t = hears_cases (λ (u : Running). Same u.sender t.sender) lost replaced f now t (refl, refl) (λ z. (refl, refl)) (λ z. keeps t.sender (Heard f) now)
-
-pub sends_same : (now : ℕ) (t : Running) → Same (sends now t).sender t.sender
-sends_same now t = cond_both (gives_up t) _ _ (λ (r : SenderRecord). Same r t.sender) (λ z. gives_up_same t.sender 5) (λ z. keeps t.sender Tick now)
-
-between_same : (w : Who) (new old : Running) → Same new.sender old.sender → Between w old → Between w new
-between_same w new old k h = record {
-  source = ap (λ m. m.source) k.0 ∙ h.source;
-  directed = subst (λ (d : ℕ). d < 254) (sym k.1) h.directed;
+pub between_same : (w : Who) (old new : Running) → IsSame old.sender new.sender → Between w old → Between w new
+between_same w old new k h = record {
+  source = ap (λ m. m.source) k.1 ∙ h.source;
+  directed = subst (λ (d : ℕ). d < 254) (sym k.0) h.directed;
 }
 
-ported_hears : (w : Who) (lost : Bool) (replaced : ℕ → Bool) (f : FrameRecord) (now : ℕ) (o : Option Running) → Ported w o
-    → Ported w (hears_if lost replaced f now o)
-ported_hears w lost replaced f now None h = h
-ported_hears w lost replaced f now (Some t) h = between_same w _ t (hears_same lost (replaced t.sender.destination) f now t) h
+abbrev pub Ported : Who → List Running → Type 0
+Ported w [] = Unit {0}
+Ported w (x ∷ xs) = Between w x × Ported w xs
 
-ported_sends : (w : Who) (b : Bool) (now : ℕ) (o : Option Running) → Ported w o → Ported w (sends_if b now o)
-ported_sends w false now o h = h
-ported_sends w true now None h = h
-ported_sends w true now (Some t) h = between_same w _ t (sends_same now t) h
+ported_map : (w : Who) (f : Running → Running) → ((x : Running) → IsSame x.sender (f x).sender) → (xs : List Running) → Ported w xs → Ported w (map f xs)
+ported_map w f k [] h = tt
+ported_map w f k (x ∷ xs) h = (between_same w x (f x) (k x) h.0, ported_map w f k xs h.1)
 
-ported_opens : (w : Who) (H : List Call) (now group to k : ℕ) (bytes : List ℕ) → Ok k ≡ answer_to_transfer w H now group to bytes
-    → Ported w (open_transfer w (At now (Transfer group to bytes (Ok k)) ∷ H))
+ported_others : (w : Who) (p : Running → Bool) (xs : List Running) → Ported w xs → Ported w (others p xs)
+ported_others w p [] h = tt
+ported_others w p (x ∷ xs) h = cond_both (p x) xs (x ∷ others p xs) (Ported w) (λ e. h.1) (λ e. (h.0, ported_others w p xs h.1))
+
+ported_more : (w : Who) (xs : List Running) (y : Running) → Ported w xs → Between w y → Ported w (xs ++ y ∷ [])
+ported_more w [] y h b = (b, tt)
+ported_more w (x ∷ xs) y h b = (h.0, ported_more w xs y h.1 b)
+
+pub ported_found : (w : Who) (p : Running → Bool) (xs : List Running) (y : Running) → Ported w xs → find p xs ≡ Some y → Between w y
+ported_found w p [] y h e = absurd (cc)
+ported_found w p (x ∷ xs) y h e = go (p x) (ported_found w p xs y h.1) e
+  where
+    go : (b : Bool) → (find p xs ≡ Some y → Between w y) → (if b then Some x else find p xs) ≡ Some y → Between w y
+    go true k e = let z : x ≡ y = cc in subst (Between w) z h.0
+    go false k e = k e
+
+-- ---- after each call
+
+pub record Stands (w : Who) (s : TransfersRecord) : Type 0 where
+  pub own : s.own ≡ w.address
+  pub ported : Ported w s.running
+
+pub started : (w : Who) → IsFresh w → ((transfers_at w []).running ≡ []) × ((transfers_at w []).own ≡ w.address)
+started w h =
+    let s = after 0 w.transfers w.brought.events in
+    let c : can_move w.address s ≡ true = (λ i. lt-ltb _ _ h.0 i && nat_eq (length (h.1 i)) 0) in (
+      ap (λ (b : Bool). (if b then record s { own = w.address } else s).running) c ∙ h.1,
+      ap (λ (b : Bool). (if b then record s { own = w.address } else s).own) c,
+    )
+
+stands_left : (w : Who) (holder : ℕ → Option ℕ) (now : ℕ) (s : TransfersRecord) → Stands w s → Stands w (step (Leaves None holder now) s)
+stands_left w holder now s h = record { own = h.own; ported = ported_map w (leaves_in None holder now) (left_same holder now) s.running h.ported }
+
+stands_sent : (w : Who) (now : ℕ) (s : TransfersRecord) → Stands w s → Stands w (step (Sends now) s)
+stands_sent w now s h = record { own = h.own; ported = go (turn now s.running) refl }
+  where
+    p : Running → Bool
+    p = is_first now s.running
+
+    go : (o : Option Running) → turn now s.running ≡ o → Ported w (others p s.running ++ listed (option_map (sent_in_one now) o))
+    go None e = subst (Ported w) (sym (append_none (others p s.running))) (ported_others w p s.running h.ported)
+      where
+        append_none : (xs : List Running) → xs ++ [] ≡ xs
+        append_none [] = refl
+        append_none (x ∷ xs) = ap (λ ys. x ∷ ys) (append_none xs)
+    go (Some y) e = ported_more w (others p s.running) (sent_in_one now y) (ported_others w p s.running h.ported)
+        (between_same w y (sent_in_one now y) (sent_same now y) (ported_found w p s.running y h.ported e))
+
+stands_begun : (w : Who) (o : Order) (name : Option ℕ) (now : ℕ) (s : TransfersRecord) → Stands w s → o.to < 254 → Stands w (step (Begins o name now) s)
 unfolding new_sender
-ported_opens w H now group to k bytes e =
-    let b = (transfer_accepts w H now group to k bytes e).1 in
-    record { source = refl; directed = ltb-true _ _ (both (nat_lt to 254) _ (both (can_broadcast group bytes) _ b).1).0 }
+stands_begun w o name now s h l = begun_split (Stands w) o name now s (record { own = h.own; ported = h.ported })
+    (λ e r. record { own = h.own; ported = ported_more w s.running (begun s.own o name now) h.ported (record { source = h.own; directed = l }) })
 
-pub ported : (w : Who) (H : List Call) → AreAnswered w H → Ported w (open_transfer w H)
-ported w [] e = tt
-ported w (At when (Hear f) ∷ H) e =
-    ported_hears w (is_lost (address_after w (At when (Hear f) ∷ H))) (λ a. is_replaced (holder w H a) (holder w (At when (Hear f) ∷ H) a)) f (clock_at H when) (open_transfer w H)
-    (ported w H e.0)
-ported w (At now (TakeFrame (Some f)) ∷ H) e = ported_sends w (is_move w H f) (clock_at H now) (open_transfer w H) (ported w H e.0)
-ported w (At now (Transfer group to bytes (Ok k)) ∷ H) e = ported_opens w H now group to k bytes e.1
-ported w (TakeTransferEnded (Some x) ∷ H) e = tt
-ported w (call ∷ H) e = ported w H e.0
+pub stands : (w : Who) (H : List Call) → AreAnswered w H → Stands w (transfers_at w H)
+stands w [] e = let s = started w e in record { own = s.1; ported = subst (Ported w) (sym s.0) tt }
+stands w (At now (Hear f) ∷ H) e = go (is_lost (address_after w (At now (Hear f) ∷ H))) (stands w H e.0)
+  where
+    holds : ℕ → Option ℕ
+    holds = holder w (At now (Hear f) ∷ H)
+
+    s : TransfersRecord
+    s = transfers_at w H
+
+    go : (b : Bool) → Stands w s → Stands w (after 0 w.transfers (heard_events b (clock_at w H now) holds f (transfer_events w H)))
+    go true h = record { own = h.own; ported = ported_map w (breaks how.Withdrawn (clock_at w H now)) (broken_same how.Withdrawn (clock_at w H now)) s.running h.ported }
+    go false k =
+        let h = stands_left w holds (clock_at w H now) s k in
+        record { own = h.own; ported = ported_map w (heard_in_one f (clock_at w H now)) (heard_same f (clock_at w H now)) (map (leaves_in None holds (clock_at w H now)) s.running) h.ported }
+stands w (At now (TakeFrame (Some f)) ∷ H) e = go (is_claim f) (is_move w H f) (stands w H e.0)
+  where
+    go : (b m : Bool) → Stands w (transfers_at w H) → Stands w (after 0 w.transfers (taken_events b m (clock_at w H now) (holder w (At now (TakeFrame (Some f)) ∷ H)) (transfer_events w H)))
+    go true m h = stands_left w (holder w (At now (TakeFrame (Some f)) ∷ H)) (clock_at w H now) (transfers_at w H) h
+    go false true h = stands_sent w (clock_at w H now) (transfers_at w H) h
+    go false false h = h
+stands w (At now (Transfer group to bytes answer) ∷ H) e = go (is_tried answer last) refl (stands w H e.0)
+  where
+    last : Bool
+    last = nat_eq (length (all_transfers w H)) 18446744073709551615
+
+    o : Order
+    o = order (length (all_transfers w H)) group to bytes
+
+    go : (b : Bool) → is_tried answer last ≡ b → Stands w (transfers_at w H)
+        → Stands w (after 0 w.transfers (tried_events b (Begins o (holder w H to) (clock_at w H now)) (transfer_events w H)))
+    go true t h =
+        let c = both (can_broadcast group bytes) _ (transfer_tried w H now group to bytes answer last e.1 t) in
+        stands_begun w o (holder w H to) (clock_at w H now) (transfers_at w H) h (ltb-true _ _ (both (nat_lt to 254) _ c.1).0)
+    go false t h = h
+stands w (TakeTransferEnded (Some x) ∷ H) e = let h = stands w H e.0 in record { own = h.own; ported = ported_others w is_over (transfers_at w H).running h.ported }
+stands w (call ∷ H) e = stands w H e.0
+
+pub own_is : (w : Who) (H : List Call) → AreAnswered w H → (transfers_at w H).own ≡ w.address
+own_is w H e = (stands w H e).own
+
+pub apart : (w : Who) (H : List Call) → AreApart (transfers_at w H).running
+apart w H = each_apart 0 w.transfers (transfer_events w H)
 
 -- ---- what its frames are
+
+-- what a sender says between two addresses is carried so
+pub said_so : (s : SenderRecord) (o : Option Signal) → s.message.source < 254 → s.destination < 254 → option_map carried_by (sent_by s o) ≡ option_map (says s) o
+unfolding written
+said_so s o l m = grind (arith, l, m)
+
+-- one whose turn it is
+pub record Turned (w : Who) (H : List Call) (now : ℕ) (m : Message) : Type 0 where
+  pub running : Running
+  pub turn_is : turn (clock_at w H now) (transfers_at w H).running ≡ Some running
+  pub between : Between w running
+  pub signal : Signal
+  pub said : signal_by (clock_at w H now) running ≡ Some signal
+  pub frame : says running.sender signal ≡ m
+
+pub transfer_says : (w : Who) (H : List Call) (now : ℕ) (m : Message) → AreAnswered w H → next_transfer w H now ≡ Some m → Turned w H now m
+transfer_says w H now m right e = go (turn (clock_at w H now) (transfers_at w H).running) refl e
+  where
+    go : (o : Option Running) → turn (clock_at w H now) (transfers_at w H).running ≡ o → option_map carried_by (frame_by (clock_at w H now) o) ≡ Some m → Turned w H now m
+    go None i e = absurd (cc)
+    go (Some x) i e =
+        let b = ported_found w (is_first (clock_at w H now) (transfers_at w H).running) (transfers_at w H).running x (stands w H right).ported i in
+        let address = fresh_of w H right in
+        let z = mapped_some (says x.sender) (signal_by (clock_at w H now) x) m
+        (sym (said_so x.sender (signal_by (clock_at w H now) x) (subst (λ (n : ℕ). n < 254) (sym b.source) address) b.directed) ∙ e) in
+        record { running = x; turn_is = i; between = b; signal = z.0; said = z.1; frame = z.2 }
 
 pub record SaidCase (w : Who) (m : Message) : Type 0 where
   pub source : m.source ≡ w.address
@@ -94,47 +187,16 @@ either_group : (a : Signal) → (group_with a ≡ transport_control_group) ⊎ (
 either_group (Packet number part) = inr refl
 either_group other = inl refl
 
-pub transfer_says : (o : Option Running) (now : ℕ) (m : Message) → transfer_by o now ≡ Some m
-    → (t : Running) × (o ≡ Some t) × ((a : Signal) × (signal_by t now ≡ Some a) × (says t.sender a ≡ m))
-transfer_says None now m e = absurd (cc)
-transfer_says (Some t) now m e = (t, refl, mapped_some (says t.sender) (signal_by t now) m e)
-
-pub said_case : (w : Who) (o : Option Running) (now : ℕ) (m : Message) → Ported w o → transfer_by o now ≡ Some m → SaidCase w m
-said_case w o now m h e =
-    let x = transfer_says o now m e in
-    let b = subst (Ported w) x.1 h in
-    let z = x.2.2 in
+pub said_case : (w : Who) (H : List Call) (now : ℕ) (m : Message) → AreAnswered w H → next_transfer w H now ≡ Some m → SaidCase w m
+said_case w H now m right e =
+    let t = transfer_says w H now m right e in
     record {
-      source = ap (λ (y : Message). y.source) (sym z) ∙ b.source;
-      group = subst (λ (g : ℕ). (g ≡ transport_control_group) ⊎ (g ≡ transport_data_group)) (ap (λ (y : Message). y.group) z) (either_group x.2.0);
-      directed = ap (λ (y : Message). is_some y.destination 255) (sym z) ∙ ne_eqb x.0.sender.destination 255 (λ z. let l = b.directed in omega (arith, l, z));
+      source = ap (λ (y : Message). y.source) (sym t.frame) ∙ t.between.source;
+      group = subst (λ (g : ℕ). (g ≡ transport_control_group) ⊎ (g ≡ transport_data_group)) (ap (λ (y : Message). y.group) t.frame) (either_group t.signal);
+      directed = ap (λ (y : Message). is_some y.destination 255) (sym t.frame) ∙ ne_eqb (to_whom t.running) 255 (λ z. let l = t.between.directed in omega (arith, l, z));
     }
 
--- ---- who holds an address
-
-pub holder_known : (w : Who) (H : List Call) (table : Claims) (a : ℕ) → a < 254 → Knows table (told_claims w H) → holder_in table a ≡ holder w H a
-holder_known w H table a l k = table_is w table H a k
-
--- who was, and is, the holder of the destination's address
-pub peers_are : (o : Option Running) (b : Bool) (p q : Option ℕ) (old new : Claims) → IfSome o (λ x. p ≡ holder_in old x.sender.destination)
-    → IfSome o (λ x. q ≡ holder_in new x.sender.destination) → b ≡ is_replaced p q
-    → IfSome o (λ x. b ≡ is_replaced (holder_in old x.sender.destination) (holder_in new x.sender.destination))
-peers_are o b p q old new e f g = grind (arith, e, f, g)
-
--- whether a frame that is heard replaces the holder of the destination's address
-pub replaced_is : (w : Who) (H : List Call) (when : ℕ) (f : FrameRecord) (old new : Claims) (b : Bool) (o : Option Running) → Ported w o
-    → Knows old (told_claims w H) → Knows new (told_claims w (At when (Hear f) ∷ H))
-    → IfSome o (λ x. b ≡ is_replaced (holder_in old x.sender.destination) (holder_in new x.sender.destination))
-    → IfSome o (λ x. b ≡ is_replaced (holder w H x.sender.destination) (holder w (At when (Hear f) ∷ H) x.sender.destination))
-replaced_is w H when f old new b None h k l e = e
-replaced_is w H when f old new b (Some t) h k l e =
-    e ∙ (ap (λ (o : Option ℕ). is_replaced o (holder_in new t.sender.destination)) (holder_known w H old t.sender.destination h.directed k)
-    ∙ ap (is_replaced (holder w H t.sender.destination)) (holder_known w (At when (Hear f) ∷ H) new t.sender.destination h.directed l))
-
--- ---- what a controller has of it
-
-pub is_port : (p q : PortRecord) → p.current ≡ q.current → p.next_token ≡ q.next_token → p.resting ≡ q.resting → p ≡ q
-is_port p q e f g = grind (arith, e, f, g)
+-- ---- what a controller has of them
 
 pub clock_is : (n : ℕ) → min (min n 18446744073709551615) 9999999999999999 ≡ min n 9999999999999999
 clock_is n = omega arith

@@ -1,5 +1,5 @@
 -- A driver's pace: what was accepted goes on, is over, or its address is lost. Broadcasts first.
-use Rattle.j39_node.proofs.Common.{[], Address, address_after, after, answer_to_broadcast, ap, AreAnswered, arith, At, Bool, Broadcast, broadcast_end, broadcast_from, Call, claimed, claims_anew, cond_both, Controller, Done, Ending, ending_of, false, frame_of, FrameRecord, gap, goes, if◌then◌else◌, inl, inr, Is, is_held, is_lost, is_packet, IsAnswered, IsPaced, IsPrompt, later, leb-false, leb-true, length, List, lost, ltb-false, Message, message_of, MessageRecord, moment, more, nat_le, nat_lt, next_broadcast_ended, None, NoneTold, not_both, Ok, older, open_broadcast, Option, packet_by, packets, packets_of, packets_taken, passed, passed_in, pause, refl, rest, Some, step, subst, suc, suc-mul, sym, TakeBroadcastEnded, TakeFrame, tells_broadcast, true, waited_in, Who, Withdrawn, ℕ, ◌&&◌, ◌*◌, ◌++◌, ◌+◌, ◌-◌, ◌<◌, ◌∙◌, ◌∷◌, ◌≡◌, ◌≤◌, ◌⊎◌}
+use Rattle.j39_node.proofs.Common.{[], Address, address_after, Again, after, answer_to_broadcast, ap, AreAnswered, arith, At, Bool, Broadcast, broadcast_end, broadcast_from, Call, claimed, claims_anew, cond_both, Controller, Done, Ending, ending_of, false, frame_of, FrameRecord, gap, goes, Hear, if◌then◌else◌, inl, inr, Is, is_claim, is_held, is_lost, is_packet, IsAnswered, IsPaced, IsPrompt, later, leb-false, leb-true, length, List, lost, ltb-false, Message, message_of, MessageRecord, moment, more, nat_le, nat_lt, next_broadcast_ended, None, NoneTold, not_both, Ok, older, open_broadcast, Option, packet_by, packets, packets_of, packets_taken, passed, passed_in, pause, refl, Some, step, subst, suc, suc-mul, sym, TakeBroadcastEnded, TakeFrame, tells_broadcast, true, waited_in, Who, Withdrawn, ℕ, ◌&&◌, ◌*◌, ◌++◌, ◌+◌, ◌-◌, ◌<◌, ◌∙◌, ◌∷◌, ◌≡◌, ◌≤◌, ◌⊎◌}
 use Rattle.j39_node.proofs.QueueLemmas.{length_one_more}
 use Rattle.j39_node.proofs.SoundLemmas.{stays_lost, none_next, held_older, address_cases}
 use Rattle.j39_node.proofs.AnswerCases.{broadcast_accepts}
@@ -9,12 +9,31 @@ use Rattle.j39_node.proofs.AnswerCases.{broadcast_accepts}
 held_claimed : (a : Address) → is_held a ≡ true → is_held (claimed a) ≡ true
 held_claimed a e = grind (arith, e)
 
-keeps : (w : Who) (H : List Call) (call : Call) → claims_anew call ≡ false → is_held (address_after w H) ≡ true
+pub keeps : (w : Who) (H : List Call) (call : Call) → claims_anew call ≡ false → is_held (address_after w H) ≡ true
     → (is_lost (address_after w (call ∷ H)) ≡ true) ⊎ (is_held (address_after w (call ∷ H)) ≡ true)
 keeps w H call n e =
     let a = older (step H (moment (call ∷ H))) (address_after w H) in
     let h = held_older (step H (moment (call ∷ H))) (address_after w H) e in
     address_cases w H call (λ a. (is_lost a ≡ true) ⊎ (is_held a ≡ true)) (inr h) (inl refl) (inr (held_claimed a h)) (λ z. absurd (not_both _ n z))
+
+-- by a frame that is heard it is held, unless it is lost
+pub held_unless : (w : Who) (H : List Call) (call : Call) → claims_anew call ≡ false → is_held (address_after w H) ≡ true → is_lost (address_after w (call ∷ H)) ≡ false
+    → is_held (address_after w (call ∷ H)) ≡ true
+held_unless w H call n e l = elim (keeps w H call n e) [ inl z ↦ absurd (not_both _ l z) | inr z ↦ z ]
+
+-- and no other call loses it
+abbrev pub hears_one : Call → Bool
+hears_one (At now (Hear f)) = true
+hears_one call = false
+
+pub keeps_held : (w : Who) (H : List Call) (call : Call) → claims_anew call ≡ false → hears_one call ≡ false → is_held (address_after w H) ≡ true
+    → is_held (address_after w (call ∷ H)) ≡ true
+keeps_held w H (At now (Hear f)) n x e = absurd (let z : true ≡ false = x in cc)
+keeps_held w H (At now (TakeFrame (Some f))) n x e =
+    let h = held_older (step H now) (address_after w H) e in cond_both (is_claim f) _ _ (λ (a : Address). is_held a ≡ true) (λ z. held_claimed (older (step H now) (address_after w H)) h) (λ z. h)
+keeps_held w H (At now Again) n x e = absurd (let z : true ≡ false = n in cc)
+keeps_held w H (At now act) n x e = held_older (step H now) (address_after w H) e
+keeps_held w H call n x e = e
 
 -- it is over, its address is lost, or it goes on from an address that is held
 pub data Fate (a : Address) (Over Runs : Type 0) : Type 0 where

@@ -1,5 +1,5 @@
 -- A session ends by itself; and what is sent to it whole is received.
-use Rattle.j39_node.proofs.Common.{[], Abort, all_replies, ap, append-nil, arith, At, begins, Bool, Bring, brings, Call, claim_of, eqb-true, events, false, first, found_by, FrameRecord, Hear, heard_at, heard_by, holder, holds, is_claim, is_reply, is_same, is_smaller, IsOpenOf, IsPacket, IsTrue, joined, known, later, List, listed, longest, made_in_sessions, MessageRecord, moment, nat_eq, NeverBack, None, of_source, opens, Option, option_map, Packet, passed_in, reception, ReceptionRecord, RecvResult, refl, ReleaseTransfer, RequestToSend, rest, restarts, said_to, says, Session, session, sessions_after, SessionsRecord, Some, source_of, Spares, spares, StaysOpen, still, subst, suc, sym, take, TakeFrame, taken_by, Tick, TicksWithin, time_heard, timer_t2, ToSend, true, unticked_in, Who, whole, written, ℕ, ◌*◌, ◌++◌, ◌+◌, ◌-◌, ◌<◌, ◌∙◌, ◌∷◌, ◌≡◌, ◌≢◌, ◌≤◌}
+use Rattle.j39_node.proofs.Common.{[], Abort, all_replies, ap, append-nil, arith, At, begins, Bool, Bring, brings, Call, claim_of, eqb-true, events, false, first, found_by, FrameRecord, Hear, heard_at, heard_by, holder, holds, is_claim, is_reply, is_same, is_smaller, IsOpenOf, IsPacket, IsTrue, known, later, List, listed, longest, made_in_sessions, MessageRecord, moment, nat_eq, NeverBack, None, of_source, opens, Option, option_map, Packet, passed_in, reception, ReceptionRecord, RecvResult, refl, ReleaseTransfer, RequestToSend, restarts, said_to, says, Session, session, sessions_after, SessionsRecord, Some, source_of, Spares, spares, StaysOpen, still, subst, suc, sym, take, TakeFrame, taken_by, Tick, TicksWithin, time_heard, timer_t2, ToSend, true, unticked_in, Who, whole, written, ℕ, ◌*◌, ◌++◌, ◌+◌, ◌-◌, ◌<◌, ◌∙◌, ◌∷◌, ◌≡◌, ◌≢◌, ◌≤◌}
 use Rattle.j39_sessions.specs.Events.{Event, Hears, Leaves, Releases, Says, Ticks as TicksBy, ticked_of}
 use Rattle.j39_sessions.specs.Packets.{begins as begins_by, Bring as BringBy, brings as brings_by, spares as spares_by}
 use Rattle.j39_sessions.specs.Sessions.{from, has_room, is_of_session, is_that as is_address, name_by, replied, session_by, session_ticked, since_by, step_at, tick_of}

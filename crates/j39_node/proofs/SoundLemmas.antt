@@ -1,10 +1,10 @@
 -- What every answered history says of what was accepted, sent and told.
-use Rattle.j39_node.proofs.Common.{[], accepted, Acknowledge, acknowledged, acknowledgment, acknowledgment_group, Address, address_after, address_claimed_group, Again, All, All-nil, All-push, All-set, all_replies, and-false, and-true, and_parts, Answer, answer_to_ask, ap, append_assoc, AreAnswered, arith, Ask, Asked, asked, At, blank, Bool, bytes_eq-Decides, Call, can_ask, can_send, cases_Bool, claim_address, claim_due, claim_from, claim_goes, claim_of, claimed, claims_anew, clock_at, cond_both, cond_some, content, control_of, destination_of, Done, Draft, drop, due, end_of, Ending, ending_of, eq-eqb, eqb-true, false, false_from_ne_true, frame_of, FrameRecord, fresh, gives_way, got, handed, has_packets, Hear, holds, if◌then◌else◌, inl, inr, is_acknowledgment, is_apart, is_blank, is_claim, is_held, is_left, is_lost, is_move, is_own_group, is_packet, is_refusal_due, is_same, is_sendable, is_served, is_session, is_smaller, is_some, is_that, is_there, is_transfer, is_turn, IsAnswered, IsFront, IsTrue, kept, latest, leb-true, length, length-append, length-map, length-set, List, Lost, lost, ltb-false, ltb-true, map, map-append, map-set, marks, max, may_go, Message, message_from, message_of, MessageRecord, moment, Move, nat_eq, nat_le, nat_lt, next_acknowledgment, next_ended, next_frame, next_other, next_packet, next_renewed, next_transfer, next_turn, next_withdrawn, None, none-some, not, not-true, not_both, Ok, older, open_ask, open_broadcast, open_transfer, Option, option_map, or_from, or_parts, other, packet_by, packets, packets_of, past, pause, pgn_of, Question, question, reached, Ready, ready, refl, Renew, Reply, request_for, request_group, requests, Send, sent, Single, slice_get, slice_get-map, slice_get_past, slice_get_within, slice_set, Some, some_pair_parts, source_of, stamped, step, subst, suc, sym, take, take-append-le, take-set-le, TakeAskEnded, TakeEnded, TakeFrame, TakeReceived, TakeRequest, told, transport_control_group, transport_data_group, true, Turn, turn_frame, turn_of, turns, unblanked, unclaimed, Who, with_refusal, with_request, Withdraw, Withdrawn, yields, zero, ℕ, ◌&&◌, ◌++◌, ◌-◌, ◌<◌, ◌||◌, ◌↔◌, ◌∙◌, ◌∷◌, ◌≡◌, ◌≤◌, ◌⊎◌}
+use Rattle.j39_node.proofs.Common.{[], accepted, Acknowledge, acknowledged, acknowledgment, acknowledgment_group, Address, address_after, address_claimed_group, Again, All, All-nil, All-push, All-set, all_replies, and-false, and-true, and_parts, Answer, answer_to_ask, ap, append_assoc, AreAnswered, arith, Ask, Asked, asked, At, blank, Bool, bytes_eq-Decides, Call, can_ask, can_send, cases_Bool, claim_address, claim_due, claim_from, claim_goes, claim_of, claimed, claims_anew, cond_both, cond_some, content, control_of, destination_of, Done, Draft, drop, due, end_of, Ending, ending_of, eq-eqb, eqb-true, false, false_from_ne_true, frame_of, FrameRecord, fresh, gives_way, got, handed, has_packets, Hear, holds, if◌then◌else◌, inl, inr, is_acknowledgment, is_apart, is_blank, is_claim, is_held, is_left, is_lost, is_move, is_own_group, is_packet, is_refusal_due, is_same, is_sendable, is_served, is_session, is_smaller, is_some, is_that, is_there, is_transfer, is_turn, IsAnswered, IsFront, IsTrue, kept, latest, leb-true, length, length-append, length-map, length-set, List, Lost, lost, ltb-false, ltb-true, map, map-append, map-set, marks, max, may_go, Message, message_from, message_of, MessageRecord, moment, Move, nat_eq, nat_le, nat_lt, next_acknowledgment, next_ended, next_frame, next_other, next_packet, next_renewed, next_transfer, next_turn, next_withdrawn, None, none-some, not, not-true, not_both, Ok, older, open_ask, open_broadcast, Option, option_map, or_from, or_parts, other, packet_by, packets, packets_of, past, pause, pgn_of, Question, question, reached, Ready, ready, refl, Renew, Reply, request_for, request_group, requests, Send, sent, Single, slice_get, slice_get-map, slice_get_past, slice_get_within, slice_set, Some, some_pair_parts, source_of, stamped, step, subst, suc, sym, take, take-append-le, take-set-le, TakeAskEnded, TakeEnded, TakeFrame, TakeReceived, TakeRequest, told, transport_control_group, transport_data_group, true, Turn, turn_frame, turn_of, turns, unblanked, unclaimed, Who, with_refusal, with_request, Withdraw, Withdrawn, yields, zero, ℕ, ◌&&◌, ◌++◌, ◌-◌, ◌<◌, ◌||◌, ◌↔◌, ◌∙◌, ◌∷◌, ◌≡◌, ◌≤◌, ◌⊎◌}
 use Rattle.j39_node.specs.declared.turn.Turn.TheVariants.{Packet}
 use Rattle.j39_node.proofs.WithdrawLemmas.{get_front, stops_append, past_more, next_false, past_stops, past_within, set_same, unblanked_more, unblanked_past, unpassed}
 use Rattle.j39_node.proofs.ReceptionLemmas.{IsReply, reply_of}
 use Rattle.j39_node.proofs.AnswerCases.{ask_accepts, send_accepts, sendable}
-use Rattle.j39_node.proofs.PortLemmas.{ported, said_case}
+use Rattle.j39_node.proofs.PortLemmas.{said_case}
 use Rattle.j39_node.proofs.QueueLemmas.{get_append, length_one_more, get_last, all_at}
 use Rattle.j39_node.proofs.RenewLemmas.{IsLatest, latest_is, set_get, set_other, no_request}
 
@@ -124,7 +124,7 @@ past_end (x ∷ L) (suc n) e = let h = past_end L n e in omega (arith, h)
 pub some_at : {T : Type 0} (L : List T) (n : ℕ) → nat_lt n (length L) ≡ true → slice_get L n ≡ None → ⊥
 some_at L n e f = absurd (let l = ltb-true n (length L) e in let m = past_end L n f in omega (arith, l, m))
 
--- what goes before a frame of the open transfer isn't due
+-- what goes before a frame of a transfer isn't due
 pub record NothingElse (r : Ready) : Type 0 where
   pub overdue : r.overdue ≡ false
   pub message : r.message ≡ false
@@ -172,7 +172,7 @@ none_there o e = grind (arith, e)
 pub not_there : (o : Option Message) → is_there o ≡ true → o ≡ None → ⊥
 not_there o e f = not_both _ (ap is_there f) e
 
--- a frame of the open transfer that is due, and apart from the first reply
+-- a frame of a transfer that is due, and apart from the first reply
 pub apart_there : (o a : Option Message) → is_apart o a ≡ true → o ≡ None → ⊥
 apart_there o a e f = not_both _ (ap (λ (p : Option Message). is_apart p a) f) e
 
@@ -185,7 +185,7 @@ pub record Rest (w : Who) (H : List Call) (now : ℕ) : Type 0 where
   pub message : slice_get (accepted w H) (reached H) ≡ None
   pub packet : next_packet w H now ≡ None
 
--- what goes before the open transfer's frames isn't there
+-- what goes before frames of transfers isn't there
 pub nothing_else : (w : Who) (H : List Call) (now : ℕ) → NothingElse (ready w H now)
     → (slice_get (accepted w H) (reached H) ≡ None) × (next_packet w H now ≡ None)
 nothing_else w H now h = (
@@ -350,7 +350,7 @@ that_same m = λ i. eq-eqb m.group m.group refl i && (same_address m.destination
     same_address : (o : Option ℕ) → is_same o o ≡ true
     same_address o = grind arith
 
--- the first reply is none of the open transfer
+-- the first reply is none of a transfer
 pub reply_is : (w : Who) (H : List Call) (f : FrameRecord) (m : Message) → slice_get (all_replies w H) 0 ≡ Some m → message_of f ≡ m
     → is_that (message_of f) (slice_get (all_replies w H) 0) ≡ true
 reply_is w H f m e i = ap (is_that (message_of f)) e ∙ (ap (λ x. is_that x (Some m)) i ∙ that_same m)
@@ -358,7 +358,7 @@ reply_is w H f m e i = ap (is_that (message_of f)) e ∙ (ap (λ x. is_that x (S
 pub reply_no_move : (w : Who) (H : List Call) (f : FrameRecord) (m : Message) → slice_get (all_replies w H) 0 ≡ Some m → message_of f ≡ m → is_move w H f ≡ false
 reply_no_move w H f m e i = ap (λ (b : Bool). is_transfer f && not b) (reply_is w H f m e i) ∙ and-false (is_transfer f)
 
--- one of the open transfer that goes apart from it is not-true reply
+-- one of a transfer that goes apart from it is not-true reply
 pub apart_is : (w : Who) (H : List Call) (now : ℕ) (f : FrameRecord) (m : Message) → next_transfer w H now ≡ Some m → message_of f ≡ m
     → (ready w H now).transfer ≡ true → is_that (message_of f) (slice_get (all_replies w H) 0) ≡ false
 apart_is w H now f m e g i = is_apart_of (next_transfer w H now) (slice_get (all_replies w H) 0) m (message_of f) e g i
@@ -369,7 +369,7 @@ apart_is w H now f m e g i = is_apart_of (next_transfer w H now) (slice_get (all
 pub is_moved : (w : Who) (H : List Call) (f : FrameRecord) → is_transfer f ≡ true → is_that (message_of f) (slice_get (all_replies w H) 0) ≡ false → is_move w H f ≡ true
 is_moved w H f e g = λ i. e i && not (g i)
 
--- what a frame of the open transfer is
+-- what a frame of a transfer is
 pub record IsOfTransfer (w : Who) (f : FrameRecord) : Type 0 where
   pub claim : is_claim f ≡ false
   pub plain : is_acknowledgment f ≡ false
@@ -381,7 +381,7 @@ pub record IsOfTransfer (w : Who) (f : FrameRecord) : Type 0 where
 pub transfer_taken : (w : Who) (H : List Call) (now : ℕ) (f : FrameRecord) (m : Message) → AreAnswered w H → stamped f ≡ (now, m) → next_transfer w H now ≡ Some m
     → IsOfTransfer w f
 transfer_taken w H now f m right e g =
-    let s = said_case w (open_transfer w H) (clock_at H now) m (ported w H right) g in
+    let s = said_case w H now m right g in
     let x = of_session f m.group (ap (λ (y : ℕ × Message). y.1.group) e) s.group in
     let to : is_some (destination_of f.id) 255 ≡ false = ap (λ (y : ℕ × Message). is_some y.1.destination 255) e ∙ s.directed in
     record {

@@ -2,7 +2,7 @@
 use Rattle.std.specs.Prelude.{◌+◌, ◌∷◌}
 use Rattle.j39_node.specs.Common.{[], Err, false, FrameRecord, List, None, Ok, Some, true, ℕ}
 use Rattle.j39_node.specs.declared.kinds.Ending.TheVariants.{Done, Withdrawn}
-use Rattle.j39_node.specs.declared.kinds.TransferEnding.TheVariants as transfer
+use Rattle.j39_transfers.specs.declared.kinds.Ending.TheVariants as transfer
 use Rattle.j39_node.specs.declared.kinds.Answer.TheVariants.{Ack}
 use Rattle.j39_node.specs.declared.kinds.News.TheVariants.{MessagesMissed}
 use Rattle.j39_node.specs.declared.kinds.Refused.TheVariants.{NoAddress, BadValue, Full}
@@ -12,7 +12,7 @@ use Rattle.j39_node.specs.History.Act.{Acknowledge, Broadcast, Hear, Tick, TakeF
 
 -- NAME 2 at address 128, whose program serves group 65259 and subscribes 0 and 65226
 abbrev pub two : Who
-two = record { name = 2; address = 128; delay = 10; served = 65259 ∷ []; subscribed = Some (0 ∷ 65226 ∷ []); boxes = 1; sessions = 1; window = 0; brought = nothing }
+two = record { name = 2; address = 128; delay = 10; served = 65259 ∷ []; subscribed = Some (0 ∷ 65226 ∷ []); boxes = 1; sessions = 1; transfers = 1; window = 0; brought = nothing }
 
 -- its claim, and 'cannot claim'
 abbrev pub own_claim : ℕ → FrameRecord

@@ -3,7 +3,8 @@
 use Rattle.std.specs.Prelude.{if◌then◌else◌, ◌%◌, ◌&&◌, ◌*◌, ◌++◌, ◌+◌, ◌-◌, ◌/◌, ◌==◌, ◌||◌, ◌∷◌, ◌≡◌, ◌≤◌}
 use Rattle.j39_node.specs.Common.{[], address_claimed_group, as_broadcast, Bool, bytes_eq, Claim, claim_of, claim_time, cut_frame, destination_of, drop, false, FrameRecord, global_address, is_there, last_count, length, List, list_any, little_bytes, little_number, max, MessageRecord, nat_eq, nat_le, nat_lt, None, not, null_address, Ok, Option, option_or, packet_time, packets_of, patience_time, pgn_of, places, priority_of, request_group, Result, slack, slice_set, Some, source_of, stamp_end, suc, transport_control_group, transport_data_group, true, zero, ℕ}
 use Rattle.j39_node.specs.declared.kinds.Ending.{Ending}
-use Rattle.j39_node.specs.declared.kinds.TransferEnding.{TransferEnding}
+use Rattle.j39_transfers.specs.Events.{Event}
+use Rattle.j39_transfers.specs.declared.kinds.Ending.{Ending as TransferEnding}
 use Rattle.j39_node.specs.declared.kinds.AskEnding.{AskEnding}
 use Rattle.j39_node.specs.declared.kinds.News.{News}
 use Rattle.j39_node.specs.declared.kinds.News.TheVariants.{AddressLost, AnotherAtAddress, MessagesMissed, NameDoubled}
@@ -11,26 +12,20 @@ use Rattle.j39_node.specs.declared.kinds.Refused.{Refused}
 use Rattle.j39_node.specs.declared.kinds.Answer.{Answer}
 use Rattle.j39_node.specs.declared.kinds.Answer.TheVariants.{Ack, Nack, Denied, Busy}
 
--- which transfers rest: none, those of a group to a destination, or all
-pub data Resting : Type 0 where
-  NoneRests : Resting
-  PairRests : ℕ → ℕ → Resting
-  AllRest : Resting
-
--- what a controller that moved brought along: the frames by which it knew who holds which address, which transfers rest, and until
--- which moment
+-- what a controller that moved brought along: the frames by which it knew who holds which address, what its transfers went through, of
+-- which none is open, and how much older it is than its last moment
 pub record Brought : Type 0 where
   pub known : List FrameRecord
-  pub resting : Resting
-  pub rests_until : ℕ
+  pub events : List Event
+  pub age : ℕ
 
 -- one that didn't move
 abbrev pub nothing : Brought
-nothing = record { known = []; resting = NoneRests; rests_until = 0 }
+nothing = record { known = []; events = []; age = 0 }
 
 -- the NAME of a controller, the address that it claims, how long it waits before it says that it can't claim one (in 0.6 ms), the
--- groups that its program serves, those that it subscribed (none told: all), how many boxes it has for broadcasts in packets and for
--- sessions, how many packets it grants at once at most (0 sets no limit), and what it brought along
+-- groups that its program serves, those that it subscribed (none told: all), how many boxes it has for broadcasts in packets, for
+-- sessions and for transfers, how many packets it grants at once at most (0 sets no limit), and what it brought along
 pub record Who : Type 0 where
   pub name : ℕ
   pub address : ℕ
@@ -39,6 +34,7 @@ pub record Who : Type 0 where
   pub subscribed : Option (List ℕ)
   pub boxes : ℕ
   pub sessions : ℕ
+  pub transfers : ℕ
   pub window : ℕ
   pub brought : Brought
 

@@ -1,6 +1,6 @@
 -- How far a controller is with its address, in its own counts.
 use Rattle.std.specs.Prelude.{if◌then◌else◌, ◌&&◌, ◌+◌, ◌-◌, ◌||◌}
-use Rattle.j39_node.specs.Common.{answer_time, Bool, claim_time, false, last_count, max, min, nat_eq, nat_lt, None, not, Option, packet_time, patience_time, rest_time, slack, suc, true, ℕ}
+use Rattle.j39_node.specs.Common.{answer_time, Bool, claim_time, false, last_count, max, min, nat_eq, nat_lt, None, not, Option, packet_time, patience_time, slack, suc, true, ℕ}
 use Rattle.j39_node.specs.declared.hold.Hold.{Hold}
 use Rattle.j39_node.specs.declared.hold.Standing.{Standing}
 use Rattle.j39_node.specs.declared.hold.Standing.TheVariants as standing
@@ -39,7 +39,6 @@ passed now h = record {
   pause = h.pause - (now - h.moment);
   age = min (h.age + (now - h.moment)) last_count;
   wait = h.wait - (now - h.moment);
-  rest = h.rest - (now - h.moment);
 }
 
 -- a frame was heard: whether it drives away from the address, calls for a claim, or is another's from the address that is held
@@ -58,16 +57,15 @@ heard drives_away calls another delay h = record {
   pause = h.pause;
   age = h.age;
   wait = h.wait;
-  rest = h.rest;
 }
 
 -- nothing was claimed, and the first claim is owed
 abbrev pub first : Hold
-first = record { moment = 0; standing = standing.Idle; owes_claim = true; turns = 0; yields = false; patience = 0; delay = 0; pause = 0; age = 0; wait = 0; rest = 0 }
+first = record { moment = 0; standing = standing.Idle; owes_claim = true; turns = 0; yields = false; patience = 0; delay = 0; pause = 0; age = 0; wait = 0 }
 
--- it moves: it begins anew at the same moment, and what rests goes on to rest
+-- it moves: it begins anew at the same moment, and is as old
 abbrev pub moved : Hold → Hold
-moved h = record (passed h.moment first) { rest = h.rest }
+moved h = record (passed h.moment first) { age = h.age }
 
 -- it is to be claimed anew
 abbrev pub unclaims : Standing → Standing
@@ -104,17 +102,9 @@ paused h = record h { turns = 0; yields = false; pause = packet_time }
 abbrev pub opens : Hold → Hold
 opens h = record h { pause = max slack h.pause }
 
--- a transfer was accepted
-abbrev pub renewed : Hold → Hold
-renewed h = record h { age = 0 }
-
 -- a message was taken: whether it was the request
 abbrev pub asked : Bool → Hold → Hold
 asked b h = record h { turns = 0; yields = false; wait = if b then answer_time else h.wait }
-
--- the end of a transfer was told: whether one rests by it
-abbrev pub rested : Bool → Hold → Hold
-rested b h = record h { rest = if b then rest_time else h.rest }
 
 abbrev pub stands : Standing → Bool
 stands standing.Idle = false

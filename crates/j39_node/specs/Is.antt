@@ -14,10 +14,10 @@ use Rattle.j39_address.specs.Claim.{claim_by}
 use Rattle.j39_frame.specs.Address.{IsAddress}
 use Rattle.j39_node.specs.declared.own.Own.{Own}
 use Rattle.j39_node.specs.declared.setup.Setup.{Setup}
-use Rattle.j39_node.specs.declared.transfers.Open as transfers
 use Rattle.j39_node.specs.declared.transfers.Transfers.{Transfers}
-use Rattle.j39_node.specs.declared.transfers.Resting.{Resting as DeclaredResting}
-use Rattle.j39_node.specs.declared.transfers.Resting.TheVariants as rests
+use Rattle.j39_transfers.specs.Events.{after as transfers_after}
+use Rattle.j39_transfers.specs.Shown.{transfers_of}
+use Rattle.j39_transfers.specs.Transfers.{said, TransfersRecord}
 use Rattle.j39_node.specs.declared.requests.Request.{Request}
 use Rattle.j39_node.specs.declared.requests.Due.{Due}
 use Rattle.j39_node.specs.declared.outgoing.Outgoing.{Outgoing}
@@ -45,8 +45,7 @@ use Rattle.j39_node.specs.declared.incoming.Incoming.{Incoming}
 use Rattle.j39_node.specs.Hearing.{broadcast_senders, Listening, hears_in, is_unheard_in, listening, message_by, staying, those_over, unheard, unheard_news, waiting}
 use Rattle.j39_node.specs.Boxes.{in_box}
 use Rattle.j39_node.specs.declared.hearing.Hearing.{Hearing}
-use Rattle.j39_node.specs.Transfers.{clock, transfer_by, Running, joined, rest, resting, age, answer_to_transfer, next_transfer, next_transfer_ended, open_transfer, transfers as all_transfers}
-use Rattle.j39_node.specs.History.{Resting, NoneRests, PairRests, AllRest}
+use Rattle.j39_node.specs.Transfers.{age, answer_to_transfer, carried_by, clock, next_transfer, next_transfer_ended, transfers as all_transfers, transfers_at}
 
 -- ---- the answers that a history asks for
 
@@ -61,7 +60,7 @@ packet_by (Some x) i left = if nat_le left slack && nat_le i (packets_of x.1) th
 abbrev pub next_packet : Who → List Call → ℕ → Option Message
 next_packet w H now = packet_by (open_broadcast w H) (length (packets H)) (pause H - step H now)
 
--- a frame of the open broadcast goes before one of the open transfer
+-- a frame of the open broadcast goes before one of a transfer
 abbrev pub long_by : Option Message → Option Message → Option Message
 long_by None transfer = transfer
 long_by (Some m) transfer = Some m
@@ -81,13 +80,13 @@ is_turn (Some turn) = true
 abbrev pub is_overdue : Who → List Call → ℕ → Bool
 is_overdue w H now = has_packets w H && nat_eq (pause H - step H now) 0
 
--- a frame of the open transfer is due, and isn't the very frame that the first reply is
+-- a frame of a transfer is due, and isn't the very frame that the first reply is
 abbrev pub is_apart : Option Message → Option Message → Bool
 is_apart None reply = false
 is_apart (Some m) reply = not (is_that m reply)
 
 -- what is due beside claims and acknowledgments: such a frame; a reply that waits; a message that was accepted and wasn't taken; a frame
--- of the open broadcast, overdue or not; one of the open transfer
+-- of the open broadcast, overdue or not; one of a transfer
 abbrev pub ready : Who → List Call → ℕ → Ready
 ready w H now = record {
   overdue = is_overdue w H now;
@@ -258,8 +257,12 @@ IsAnswered w H (TakeAskEnded answer) = answer ≡ next_ask_ended w H
 IsAnswered w H (ReleaseBroadcast answer) = answer ≡ nat_lt 0 (length (waiting w H))
 IsAnswered w H call = Unit {0}
 
+-- its address is one, and of the transfers that it brought along none is open
+abbrev pub IsFresh : Who → Type 0
+IsFresh w = IsAddress w.address × ((transfers_after 0 w.transfers w.brought.events).running ≡ [])
+
 abbrev pub AreAnswered : Who → List Call → Type 0
-AreAnswered w [] = Unit {0}
+AreAnswered w [] = IsFresh w
 AreAnswered w (call ∷ H) = AreAnswered w H × IsAnswered w H call
 
 -- the claim and the request for a group that a frame makes, by what was read of it
@@ -299,6 +302,7 @@ who_of brought own = record {
   subscribed = option_map (λ groups. groups.items) own.subscribed;
   boxes = own.boxes;
   sessions = own.sessions;
+  transfers = own.transfers;
   window = own.window;
   brought = brought;
 }
@@ -312,6 +316,7 @@ who_for s = record {
   subscribed = option_map (λ groups. map pgn_raw groups.now) s.subscribed;
   boxes = s.broadcasts;
   sessions = s.sessions;
+  transfers = s.transfers;
   window = s.window;
   brought = nothing;
 }
@@ -330,9 +335,8 @@ hold_after w H = record {
   patience = patience w H;
   delay = delayed w H;
   pause = pause H;
-  age = min (age H) last_count;
+  age = min (age w H) last_count;
   wait = wait H;
-  rest = rest w H;
 }
 
 -- the same, led to a moment
@@ -343,9 +347,8 @@ led w H now = record (hold_after w H) {
   patience = patience w H - step H now;
   delay = delayed w H - step H now;
   pause = pause H - step H now;
-  age = min (age H + step H now) last_count;
+  age = min (age w H + step H now) last_count;
   wait = wait H - step H now;
-  rest = rest w H - step H now;
 }
 
 -- from an address that is held goes what is due beside claims and acknowledgments, by a hold that was led to this moment
@@ -418,33 +421,16 @@ ticks now x = with_reception (sessions_tick (later x.clock (now - x.moment)) x.r
 abbrev pub incoming_after : Who → List Call → IncomingRecord
 incoming_after w H = record { moment = heard_at H; clock = time_heard H; called = called w H; reception = reception w H }
 
--- the open transfer, and the next token
+-- the transfers, and the next token
 pub record PortRecord : Type 0 where
-  pub current : Option Running
+  pub state : TransfersRecord
   pub next_token : ℕ
-  pub resting : Resting
-
-abbrev pub running : transfers.Open → Running
-running x = record { token = x.token; sender = x.sender; granted = x.granted; spent = x.spent; gone = x.is_gone }
-
-abbrev pub resting_by : DeclaredResting → Resting
-resting_by rests.Nothing = NoneRests
-resting_by (rests.Pair to group) = PairRests to group
-resting_by rests.All = AllRest
 
 abbrev pub port_of : Transfers → PortRecord
-port_of t = record { current = option_map running t.current; next_token = t.next_token; resting = resting_by t.resting }
+port_of t = record { state = transfers_of t.all; next_token = t.next_token }
 
 abbrev pub port_after : Who → List Call → PortRecord
-port_after w H = record { current = open_transfer w H; next_token = length (all_transfers w H); resting = resting w H }
-
--- the end of the open transfer is told: whether it rests by it, and what is left of the time for which others rest
-abbrev pub closed : Bool → ℕ → PortRecord → PortRecord
-closed b left p = record {
-  current = None;
-  next_token = p.next_token;
-  resting = if b then joined left p.resting p.current else p.resting;
-}
+port_after w H = record { state = transfers_at w H; next_token = length (all_transfers w H) }
 
 -- the open request, whether its frame was taken, and how it ended by what was heard
 pub record AskRecord : Type 0 where
@@ -581,7 +567,7 @@ ready_in c hold = record {
   reply = nat_lt 0 (length (replies_of (incoming_of c.incoming).reception));
   message = nat_lt c.taken (length c.outgoing.items);
   packet = is_left (lane_of (who_of nothing c.own) c.lane).current c.lane.count && nat_le hold.pause slack;
-  transfer = is_apart (transfer_by (port_of c.transfers).current (clock hold.age)) (slice_get (replies_of (incoming_of c.incoming).reception) 0);
+  transfer = is_apart (option_map carried_by (said (clock hold.age) (port_of c.transfers).state)) (slice_get (replies_of (incoming_of c.incoming).reception) 0);
 }
 
 -- what shows of a controller that was made for w

@@ -1,8 +1,9 @@
 -- A driver that is prompt, by its calls alone.
 use Rattle.std.specs.Prelude.{if◌then◌else◌, ◌&&◌, ◌++◌, ◌+◌, ◌||◌, ◌∷◌, ◌≡◌, ◌≤◌}
-use Rattle.j39_node.specs.Common.{[], Bool, destination_of, false, FrameRecord, List, None, not, slice_get, Some, suc, true, ℕ}
+use Rattle.j39_node.specs.Common.{[], Bool, destination_of, false, FrameRecord, is_there, List, nat_eq, None, not, Option, slice_get, Some, suc, true, ℕ}
 use Rattle.j39_node.specs.Reception.{is_reply, replies}
-use Rattle.j39_node.specs.History.{is_some, is_transfer, is_packet, is_acknowledgment, is_claim, Call, moment, step, Message, Who}
+use Rattle.j39_node.specs.Transfers.{open_to}
+use Rattle.j39_node.specs.History.{is_packet, is_acknowledgment, is_claim, Call, moment, step, Message, Who}
 use Rattle.j39_node.specs.History.Call.{At, TakeBroadcastEnded, TakeTransferEnded}
 use Rattle.j39_node.specs.History.Act.{Again, TakeFrame}
 
@@ -37,10 +38,10 @@ abbrev pub NoneTold : (Call → Bool) → List Call → Type 0
 NoneTold tells [] = Unit {0}
 NoneTold tells (call ∷ later) = (tells call ≡ false) × NoneTold tells later
 
--- none of a transfer
-abbrev pub tells_transfer : Call → Bool
-tells_transfer (TakeTransferEnded (Some x)) = true
-tells_transfer call = false
+-- that of the transfer of this token
+abbrev pub tells_transfer : ℕ → Call → Bool
+tells_transfer k (TakeTransferEnded (Some x)) = nat_eq x.0 k
+tells_transfer k call = false
 
 -- a frame is taken that is neither a claim nor an acknowledgment
 abbrev pub takes_other : Call → Bool
@@ -64,15 +65,21 @@ packets_taken [] = 0
 packets_taken (At now (TakeFrame (Some f)) ∷ later) = if is_packet f then suc (packets_taken later) else packets_taken later
 packets_taken (call ∷ later) = packets_taken later
 
--- the frame counts for a transfer to this address: it is neither a claim nor an acknowledgment, nor one of a session to another address
-abbrev pub counts_for : ℕ → FrameRecord → Bool
-counts_for to f = not (is_claim f || is_acknowledgment f) && not (is_transfer f && not (is_some (destination_of f.id) to))
+-- a transfer to this address is open
+abbrev pub is_open_to : Who → List Call → Option ℕ → Bool
+is_open_to w H None = false
+is_open_to w H (Some a) = is_there (open_to w a H)
+
+-- the frame counts for the transfers: it is neither a claim nor an acknowledgment, nor a reply to an address to which none is open
+abbrev pub counts_for : Who → List Call → FrameRecord → Bool
+counts_for w H f = not (is_claim f || is_acknowledgment f) && not (is_reply (replies w H) f && not (is_open_to w H (destination_of f.id)))
 
 -- how many such frames are taken
-abbrev pub taken_for : ℕ → List Call → ℕ
-taken_for to [] = 0
-taken_for to (At now (TakeFrame (Some f)) ∷ later) = if counts_for to f then suc (taken_for to later) else taken_for to later
-taken_for to (call ∷ later) = taken_for to later
+abbrev pub taken_for : Who → List Call → List Call → ℕ
+taken_for w [] earlier = 0
+taken_for w (At now (TakeFrame (Some f)) ∷ later) earlier =
+    if counts_for w (later ++ earlier) f then suc (taken_for w later earlier) else taken_for w later earlier
+taken_for w (call ∷ later) earlier = taken_for w later earlier
 
 -- this reply is the first that waits, before each of these calls and behind them, and none is taken
 abbrev pub takes_reply : Who → List Call → Call → Bool

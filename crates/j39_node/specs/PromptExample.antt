@@ -1,10 +1,10 @@
 -- Histories of drivers that are prompt.
 use Rattle.std.specs.Prelude.{◌*◌, ◌++◌, ◌+◌, ◌∷◌}
-use Rattle.j39_node.specs.Common.{[], List, None, Ok, Some, suc, zero, ℕ}
-use Rattle.j39_node.specs.History.{Call}
+use Rattle.j39_node.specs.Common.{[], FrameRecord, List, None, Ok, Some, suc, zero, ℕ}
+use Rattle.j39_node.specs.History.{Call, Who}
 use Rattle.j39_node.specs.History.Call.{At}
 use Rattle.j39_node.specs.History.Act.{Broadcast, Hear, Send, TakeFrame, Transfer}
-use Rattle.j39_node.specs.Example.{announcement, clear, first_packet, first_to, last_packet, last_to, nine, own_claim, received_all, request_to, speed, speed_frame}
+use Rattle.j39_node.specs.Example.{announcement, clear, first_packet, first_to, last_packet, last_to, nine, own_claim, received_all, request_to, speed, speed_frame, two}
 
 -- ---- by 100 ms
 
@@ -54,3 +54,20 @@ transfer_example =
     ∷ At 300000 (TakeFrame None)
     ∷ At 300000 (TakeFrame (Some (request_to 300000)))
     ∷ []
+
+-- ---- two transfers at once
+
+abbrev pub roomy : Who
+roomy = record two { transfers = 2 }
+
+-- the request to send of the other one, to address 12
+abbrev pub other_request_to : ℕ → FrameRecord
+other_request_to now = record (request_to now) { id = 485231744 }
+
+-- another is accepted, to address 12, and both requests to send are taken
+abbrev pub both_transfers : List Call
+both_transfers =
+    At 300001 (TakeFrame (Some (other_request_to 300001)))
+    ∷ At 300000 (TakeFrame (Some (request_to 300000)))
+    ∷ At 300000 (Transfer 65226 12 nine (Ok 1))
+    ∷ transfer_start

@@ -165,7 +165,7 @@ abbrev pub is_that : Message → Option Message → Bool
 is_that x None = false
 is_that x (Some m) = nat_eq x.group m.group && (is_same x.destination m.destination && bytes_eq x.bytes m.bytes)
 
--- a frame of a session to an address that is taken is the first reply, where it is that; else one of the open transfer
+-- a frame of a session to an address that is taken is the first reply, where it is that; else one of a transfer
 abbrev pub is_reply : List Message → FrameRecord → Bool
 is_reply replies f = is_transfer f && is_that (message_of f) (slice_get replies 0)
 

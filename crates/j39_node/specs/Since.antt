@@ -1,10 +1,12 @@
 -- Since when an address is claimed, and since when a frame of packets was taken, by places of the history.
 use Rattle.std.specs.Prelude.{◌++◌, ◌+◌, ◌∷◌, ◌≡◌, ◌≤◌}
-use Rattle.j39_node.specs.Common.{[], Bool, claim_of, false, FrameRecord, IsTrue, List, Some, true, ℕ}
+use Rattle.j39_node.specs.Common.{[], Bool, claim_of, false, find, FrameRecord, IsTrue, List, Some, true, ℕ}
 use Rattle.j39_node.specs.History.{Who, Call, claim_from, is_packet, is_smaller, message_of, moment, step}
 use Rattle.j39_node.specs.History.Call.{At, TakeTransferEnded}
 use Rattle.j39_node.specs.History.Act.{Again, Hear, TakeFrame}
-use Rattle.j39_node.specs.declared.kinds.TransferEnding.{TransferEnding}
+use Rattle.j39_transfers.specs.declared.kinds.Ending.{Ending as TransferEnding}
+use Rattle.j39_transfers.specs.Transfers.{is_over, rests, to as to_whom, Transfer as Running}
+use Rattle.j39_node.specs.Transfers.{transfers_at}
 
 -- the sum of the forward steps of these later calls, from the moment of the earlier ones on
 abbrev pub passed_in : List Call → List Call → ℕ
@@ -56,9 +58,15 @@ pub record PacketSince (H : List Call) (e : ℕ) : Type 0 where
   pub of_packets : IsTrue (is_packet packet)
   pub passed : e ≡ passed_in later (At at (TakeFrame (Some packet)) ∷ earlier)
 
--- the end of a transfer was told at a call of H; e microseconds passed since
-pub record ToldSince (H : List Call) (x : ℕ × TransferEnding) (e : ℕ) : Type 0 where
+-- the end of a transfer of the group to the destination, which ended at this time, was told at a call of H, and it rests by it
+pub record RestsSince (w : Who) (H : List Call) (group to last : ℕ) : Type 0 where
   pub later : List Call
   pub earlier : List Call
-  pub is : H ≡ later ++ TakeTransferEnded (Some x) ∷ earlier
-  pub passed : e ≡ passed_in later (TakeTransferEnded (Some x) ∷ earlier)
+  pub ended : ℕ × TransferEnding
+  pub transfer : Running
+  pub is : H ≡ later ++ TakeTransferEnded (Some ended) ∷ earlier
+  pub was_first : find is_over (transfers_at w earlier).running ≡ Some transfer
+  pub rests_by_it : IsTrue (rests transfer)
+  pub to_it : to_whom transfer ≡ to
+  pub of_it : transfer.sender.message.pgn ≡ group
+  pub ended_at : transfer.last ≡ last

@@ -9,6 +9,8 @@ ghost use Rattle.j39_address.specs.Holder.{IsHolderAfter};
 ghost use Rattle.j39_address.specs.Node.{IsLeastFree, NoneFree};
 ghost use Rattle.j39_sessions.specs.Sessions.{none_of};
 ghost use Rattle.j39_sessions.specs.Shown.{sessions_of};
+ghost use Rattle.j39_transfers.specs.Shown.{transfers_of};
+ghost use Rattle.j39_transfers.specs.Transfers.{none_of as no_transfers};
 ghost use Rattle.j39_node.specs.History.{Who, Call, missed, told_claims, nothing};
 ghost use Rattle.j39_node.specs.Hearing.{unheard};
 ghost use Rattle.j39_node.specs.Moving.{HasMoved, IsSettled, has_given, has_told};
@@ -33,7 +35,7 @@ use crate::outgoing::Outgoing;
 use crate::own::Own;
 use crate::received::Inbox;
 use crate::requests::Desk;
-use crate::transfers::{self, Transfers};
+use crate::transfers::Transfers;
 use arrayvec::ArrayVec;
 use j39_address::{Claims, Name, Status};
 use j39_frame::{NULL_ADDRESS, Pgn};
@@ -86,8 +88,12 @@ impl Controller {
         else {
             return Ok(None);
         };
+        let Some(transfers) = j39_transfers::Transfers::new(alloc, setup.address, setup.transfers)?
+        else {
+            return Ok(None);
+        };
         let hearing = Hearing::new(alloc, setup.broadcasts)?;
-        Ok(Some(Controller::begun(own, sessions, hearing)))
+        Ok(Some(Controller::begun(own, sessions, transfers, hearing)))
     }
 
     /// The same, built in a box of its own: so it takes little stack.
@@ -99,12 +105,16 @@ impl Controller {
         let Some(own) = Own::new(setup) else {
             return Ok(None);
         };
+        let Some(transfers) = j39_transfers::Transfers::new(alloc, setup.address, setup.transfers)?
+        else {
+            return Ok(None);
+        };
         let Some(sessions) = Sessions::new(alloc, setup.address, setup.window, setup.sessions)?
         else {
             return Ok(None);
         };
         let hearing = Hearing::new(alloc, setup.broadcasts)?;
-        match Box::new(alloc, Controller::begun(own, sessions, hearing)) {
+        match Box::new(alloc, Controller::begun(own, sessions, transfers, hearing)) {
             Ok(controller) => Ok(Some(controller)),
             Err(_) => Err(AllocError),
         }
@@ -112,8 +122,14 @@ impl Controller {
 
     /// Nothing was called of it.
     #[inline(always)]
-    fn begun(own: Own, sessions: Sessions, hearing: Hearing) -> Controller
+    fn begun(
+        own: Own,
+        sessions: Sessions,
+        transfers: j39_transfers::Transfers,
+        hearing: Hearing,
+    ) -> Controller
         requires sessions { sessions_of sessions ≡ none_of own.address own.window own.sessions }
+        requires transfers { transfers_of transfers ≡ no_transfers own.address own.transfers }
         requires hearing { hearing_of hearing ≡ hearing_after (who_of nothing own) [] }
         requires senders { senders_of hearing ≡ [] }
         ensures { Is (who_of nothing own) [] result }
@@ -130,7 +146,7 @@ impl Controller {
             holders: Claims::new(),
             lane: Lane::new(),
             incoming: Incoming::new(sessions),
-            transfers: Transfers::new(),
+            transfers: Transfers::new(transfers),
             hearing,
             news: Untold::none(),
         }
@@ -214,9 +230,10 @@ impl Controller {
         if !self.is_settled() {
             return false;
         }
-        if !self.incoming.move_to(address, self.hold.moment) {
+        if !self.transfers.move_to(address) {
             return false;
         }
+        let _known = self.incoming.move_to(address, self.hold.moment);
         self.own.address = address;
         self.hold = self.hold.moved();
         self.taken = 0;
@@ -224,7 +241,6 @@ impl Controller {
         self.inbox.missed = 0;
         self.desk.due.clear();
         self.lane = Lane::new();
-        self.transfers.begin_anew();
         self.hearing.begin_anew();
         true
     }
@@ -238,21 +254,18 @@ impl Controller {
         self.inbox.missed.saturating_add(self.hearing.missed)
     }
 
-    /// All that was accepted is told to have ended, and all that was received, and news, is taken.
+    /// All that was accepted, but for transfers, is told to have ended, and all that was received, and news, is taken.
     fn is_settled(&self) -> bool
         ensures { result ≡ (has_told self.now && has_given self.now) }
     {
         self.has_told() && self.has_given()
     }
 
-    /// All that was accepted is told to have ended.
+    /// All that was accepted, but for transfers, is told to have ended.
     fn has_told(&self) -> bool
         ensures { result ≡ has_told self.now }
     {
-        self.outgoing.is_empty()
-            && self.lane.current.is_none()
-            && self.transfers.current.is_none()
-            && self.asking.current.is_none()
+        self.outgoing.is_empty() && self.lane.current.is_none() && self.asking.current.is_none()
     }
 
     /// All that was received, and news, is taken.

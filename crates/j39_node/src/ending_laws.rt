@@ -1,23 +1,23 @@
 //! Laws of a driver that comes back in time: what was accepted ends.
-ghost use Rattle.std.specs.Prelude.{◌≡◌, ◌⊎◌, ◌+◌, ◌-◌, ◌*◌, false, ◌<◌, ◌≤◌, ◌++◌, ℕ, List, ◌∷◌, length, Some, Ok, IsTrue, []};
+ghost use Rattle.std.specs.Prelude.{◌≡◌, ◌≢◌, ◌⊎◌, ◌+◌, ◌-◌, ◌*◌, true, false, ◌<◌, ◌≤◌, ◌++◌, ℕ, List, ◌∷◌, length, None, Some, Ok, IsTrue, []};
 ghost use Rattle.j39_transport.specs.Message.{packets_of};
 ghost use Rattle.j39_transport.specs.Protocol.{gap, timer_t3};
 ghost use Rattle.j39_node.specs.Reception.{is_reply, replies};
 ghost use Rattle.j39_node.specs.SteadyExample.{announced_start, asked_start, between_packets, claims_asked, message_start, steady_example, steady_start, transfer_accepted, turns_example, two_claims};
 ghost use Rattle.j39_node.specs.declared.controller.Controller.{Controller};
 ghost use Rattle.j39_node.specs.declared.kinds.Ending.{Ending};
-ghost use Rattle.j39_node.specs.declared.kinds.TransferEnding.{TransferEnding};
-ghost use Rattle.j39_node.specs.declared.kinds.TransferEnding.TheVariants as ending;
+ghost use Rattle.j39_transfers.specs.Transfers.{is_over, Transfer as Running};
+ghost use Rattle.j39_transfers.specs.declared.kinds.Ending.TheVariants as how;
 ghost use Rattle.j39_frame.specs.Frame.{FrameRecord};
 ghost use Rattle.j39_node.specs.History.{reached, Who, Call, Draft, accepted, address_after, broadcast_from, has_packets, is_held, is_lost, is_packet, sent, told, is_claim, message_of, Message};
 ghost use Rattle.j39_node.specs.History.Call.{At};
 ghost use Rattle.j39_node.specs.History.Act.{Ask, Broadcast, Send, TakeFrame, Transfer, Hear};
 ghost use Rattle.j39_node.specs.Is.{AreAnswered, Is, next_broadcast_ended, next_ended, next_other};
-ghost use Rattle.j39_node.specs.Transfers.{next_transfer_ended};
+ghost use Rattle.j39_node.specs.Transfers.{age, next_transfer_ended, open_to};
 ghost use Rattle.j39_node.specs.Prompt.{IsPrompt, IsSteady, NoneTold, packets_taken, taken_for, tells_broadcast, tells_transfer, StaysFirst};
 ghost use Rattle.j39_node.specs.Since.{passed_in};
 ghost use Rattle.j39_node.specs.Example.{nine, two, announcement, busy_to, clear_to, own_claim};
-ghost use Rattle.j39_node.specs.PromptExample.{prompt_example, prompt_start, transfer_example, transfer_start};
+ghost use Rattle.j39_node.specs.PromptExample.{both_transfers, prompt_example, prompt_start, roomy, transfer_example, transfer_start};
 ghost use Rattle.j39_node.specs.Times.{packet_time};
 
 /// A broadcast of n packets ends: where the driver is prompt by g microseconds since its acceptance, and more than
@@ -32,17 +32,19 @@ pub fn broadcast_ends()
         → (e : Ending) × (next_broadcast_ended w (later ++ At now (Broadcast group bytes (Ok k)) ∷ earlier) ≡ Some (k, e)) }
 {}
 
-/// A transfer of n packets ends, whatever its destination answers: where the driver is prompt by g microseconds since its
-/// acceptance (g below a million seconds), and more than (n + 65) * (T3 + g) + g passed, `take_transfer_ended` would tell its
-/// end, unless it told it before. T3 is 1,250 ms; 64 clears to send may grant nothing new.
+/// A transfer of n packets ends, whatever its destination and others answer: where the driver is prompt by g microseconds since its
+/// acceptance, and more than (n + 65) * (T3 + g) + g passed, it is over, unless its end was told before; and `take_transfer_ended` would
+/// tell its end, or that of another. T3 is 1,250 ms; 64 clears to send may grant nothing new. So for the first 285 years.
 #[tactic(auto, using(crate::proofs::EndLaws::transfer_ends))]
 pub fn transfer_ends()
     ensures { (w : Who) (later earlier : List Call) (c : Controller) (g now group to k : ℕ) (bytes : List ℕ)
-        → Is w (later ++ At now (Transfer group to bytes (Ok k)) ∷ earlier) c → NoneTold tells_transfer later
-        → IsPrompt g later (At now (Transfer group to bytes (Ok k)) ∷ earlier) → g < 1000000000000
+        → Is w (later ++ At now (Transfer group to bytes (Ok k)) ∷ earlier) c → NoneTold (tells_transfer k) later
+        → IsPrompt g later (At now (Transfer group to bytes (Ok k)) ∷ earlier)
+        → age w (later ++ At now (Transfer group to bytes (Ok k)) ∷ earlier) < 9000000000000000
         → (packets_of (broadcast_from w group bytes) + 65) * (timer_t3 + g) + g
         < passed_in later (At now (Transfer group to bytes (Ok k)) ∷ earlier)
-        → (e : TransferEnding) × (next_transfer_ended w (later ++ At now (Transfer group to bytes (Ok k)) ∷ earlier) ≡ Some (k, e)) }
+        → (x : Running) × (open_to w to (later ++ At now (Transfer group to bytes (Ok k)) ∷ earlier) ≡ Some x) × (x.token ≡ k)
+        × IsTrue (is_over x) × (next_transfer_ended w (later ++ At now (Transfer group to bytes (Ok k)) ∷ earlier) ≢ None) }
 {}
 
 /// A message of one frame ends, also that of a request: where the driver is prompt by g microseconds since its acceptance, and more
@@ -117,18 +119,20 @@ pub fn replies_go()
         → passed_in later earlier ≤ (packets_taken later + 2) * (3 * g) }
 {}
 
-/// To such a driver a transfer of n packets ends, whoever asks: within (n + 65) * (T3 + 3 g) + 6 g * (q + 1), if that is below
-/// 9 * 10^15 microseconds, where q messages, frames of broadcasts and frames of sessions to its destination are taken in this time, its
-/// own too. Messages without end hold it up, and so may its destination by RTS without end.
+/// To such a driver a transfer of n packets ends, whoever asks: within (n + 65) * (T3 + 3 g) + 6 g * (q + 1), for the first 285 years,
+/// where q messages, frames of broadcasts and of transfers, its own too, and replies to addresses to which a transfer is open are taken
+/// in this time. Messages without end hold it up, and so may a transfer's destination by RTS without end.
 #[tactic(auto, using(crate::proofs::SteadyEnds::transfer_goes))]
 pub fn transfers_go()
     ensures { (w : Who) (later earlier : List Call) (c : Controller) (g now group to k : ℕ) (bytes : List ℕ)
-        → Is w (later ++ At now (Transfer group to bytes (Ok k)) ∷ earlier) c → NoneTold tells_transfer later
+        → Is w (later ++ At now (Transfer group to bytes (Ok k)) ∷ earlier) c → NoneTold (tells_transfer k) later
         → IsSteady g later (At now (Transfer group to bytes (Ok k)) ∷ earlier)
-        → (packets_of (broadcast_from w group bytes) + 65) * (timer_t3 + 3 * g) + (taken_for to later + 1) * (6 * g) < 9000000000000000
-        → (packets_of (broadcast_from w group bytes) + 65) * (timer_t3 + 3 * g) + (taken_for to later + 1) * (6 * g)
+        → age w (later ++ At now (Transfer group to bytes (Ok k)) ∷ earlier) < 9000000000000000
+        → (packets_of (broadcast_from w group bytes) + 65) * (timer_t3 + 3 * g)
+        + (taken_for w later (At now (Transfer group to bytes (Ok k)) ∷ earlier) + 1) * (6 * g)
         < passed_in later (At now (Transfer group to bytes (Ok k)) ∷ earlier)
-        → (e : TransferEnding) × (next_transfer_ended w (later ++ At now (Transfer group to bytes (Ok k)) ∷ earlier) ≡ Some (k, e)) }
+        → (x : Running) × (open_to w to (later ++ At now (Transfer group to bytes (Ok k)) ∷ earlier) ≡ Some x) × (x.token ≡ k)
+        × IsTrue (is_over x) × (next_transfer_ended w (later ++ At now (Transfer group to bytes (Ok k)) ∷ earlier) ≢ None) }
 {}
 
 /// A driver that is prompt by g microseconds takes one frame at least in each g too.
@@ -148,15 +152,16 @@ pub fn an_example_of_promptness()
 {}
 
 /// All answers of this history are those that a controller gives, its driver is prompt by a second, and a transfer of two packets has
-/// ended in time, acknowledged: so `transfer_ends` speaks of something.
+/// ended in time, acknowledged: so `transfer_ends` speaks of something. With two boxes a second begins beside it, and takes its turn.
 #[tactic(auto, unfolding(j39_transport::specs::Cutting::cut_frame, j39_transport::specs::Cutting::announcement_of, j39_transport::specs::Cutting::packet_of, j39_transport::specs::Cutting::packet_data, j39_transport::specs::Sending::new_sender, j39_transport::specs::Sending::send_step, j39_transport::specs::Sending::ticks_in, j39_transport::specs::Sending::sends_packet, j39_transport::specs::Sending::hears, j39_transport::specs::Sending::cleared, j39_transport::specs::Sending::acknowledged, j39_transport::specs::Sending::aborted, j39_transport::specs::Signals::said_between, j39_transport::specs::Signals::said_by, j39_transport::specs::Signals::control_in, j39_transport::specs::Signals::packet_in, j39_transport::specs::Frames::is_announcement, j39_transport::specs::Frames::is_packet, j39_transport::specs::Frames::goes, j39_transport::specs::Frames::group_of, j39_transport::specs::Frames::source_of, j39_transport::specs::Frames::destination_of, j39_transport::specs::Reception::takes_request, j39_transport::specs::Reception::begun, j39_transport::specs::Reception::grants, j39_transport::specs::Reception::granted_at, j39_transport::specs::Reception::takes_data, j39_transport::specs::Reception::takes_packet, j39_transport::specs::Reception::goes_on, j39_transport::specs::Reception::delivers_message, j39_transport::specs::Signals::request_in, j39_transport::specs::Signals::written, j39_transport::specs::Frames::names_message, j39_transport::specs::Key::key_between, j39_transport::specs::Receiving::recv_step, j39_transport::specs::Receiving::said_to, j39_transport::specs::Reception::takes_signal, j39_transport::specs::Reception::takes_tick))]
 pub fn an_example_of_a_transfer()
     ensures answered { AreAnswered two (transfer_example ++ transfer_start) }
     ensures prompt { IsPrompt 1000000 transfer_example transfer_start }
-    ensures not_told { NoneTold tells_transfer transfer_example }
+    ensures not_told { NoneTold (tells_transfer 0) transfer_example }
     ensures long { (packets_of (broadcast_from two 65226 nine) + 65) * (timer_t3 + 1000000) + 1000000
         < passed_in transfer_example transfer_start }
-    ensures ended { next_transfer_ended two (transfer_example ++ transfer_start) ≡ Some (0, ending.Done) }
+    ensures ended { next_transfer_ended two (transfer_example ++ transfer_start) ≡ Some (0, how.Done) }
+    ensures both { AreAnswered roomy both_transfers }
 {}
 
 /// All answers of this history are those that a controller gives, its driver takes one frame at least in each second, and a message, a
@@ -165,7 +170,7 @@ pub fn an_example_of_a_transfer()
 pub fn an_example_of_steadiness()
     ensures answered { AreAnswered two (steady_example ++ steady_start) }
     ensures steady { IsSteady 1000000 (steady_example ++ transfer_accepted ++ At 300000 (Broadcast 65226 nine (Ok 0)) ∷ []) message_start }
-    ensures not_told { NoneTold tells_transfer steady_example × NoneTold tells_broadcast (steady_example ++ transfer_accepted) }
+    ensures not_told { NoneTold (tells_transfer 0) steady_example × NoneTold tells_broadcast (steady_example ++ transfer_accepted) }
     ensures message { IsTrue (is_held (address_after two steady_start)) × (0 < length (accepted two steady_start))
         × ((0 - reached steady_start + packets_taken steady_example + 1) * (6 * 1000000) < passed_in steady_example steady_start) }
     ensures broadcast { (packets_of (broadcast_from two 65226 nine) + 1) * (packet_time + 3 * 1000000)
@@ -173,7 +178,7 @@ pub fn an_example_of_steadiness()
     ensures apart { IsTrue (is_packet (announcement 400000)) × IsTrue (has_packets two announced_start) × (packets_taken between_packets ≡ 0)
         × (is_lost (address_after two (between_packets ++ announced_start)) ≡ false) }
     ensures transfer { (packets_of (broadcast_from two 65226 nine) + 65) * (timer_t3 + 3 * 1000000)
-        + (taken_for 11 steady_example + 1) * (6 * 1000000) < passed_in steady_example steady_start }
+        + (taken_for two steady_example steady_start + 1) * (6 * 1000000) < passed_in steady_example steady_start }
 {}
 
 /// All answers of this history are those that a controller gives; two claims are taken in a row, and then a reply that is due; and

@@ -4,7 +4,7 @@ ghost use Rattle.std.specs.Option.{option_map};
 ghost use Rattle.j39_frame.specs.Stamp.{stamp_micros};
 ghost use Rattle.j39_node.specs.History.{stamp_at};
 ghost use Rattle.j39_node.specs.declared.hold.Standing.TheVariants as standing;
-ghost use Rattle.j39_node.specs.Hold.{acknowledged, asked, first, passed, heard, moved, claimed, paused, renewed, rested, spoken, went, opens, stands, lost, less, claims, left_at, anew, can_claim, unclaims};
+ghost use Rattle.j39_node.specs.Hold.{acknowledged, asked, first, passed, heard, moved, claimed, paused, spoken, went, opens, stands, lost, less, claims, left_at, anew, can_claim, unclaims};
 
 use j39_frame::Stamp;
 
@@ -20,9 +20,6 @@ pub(crate) const SLACK: u32 = 100_000;
 
 /// How long a request waits for its answer, in microseconds (own).
 const ANSWER_TIME: u32 = 1_250_000;
-
-/// How long a transfer rests after an end without acknowledgment, in microseconds (own).
-const REST_TIME: u32 = 4_000_000;
 
 /// How long another at the address isn't answered again, in microseconds (own).
 const PATIENCE: u32 = 5_000_000;
@@ -85,12 +82,10 @@ pub(crate) struct Hold {
     pub(crate) delay: u32,
     /// What is left of the time until the next frame of a broadcast is overdue.
     pub(crate) pause: u32,
-    /// How long ago a transfer was accepted last.
+    /// The sum of all forward steps.
     pub(crate) age: u64,
     /// What is left of the time that the open request waits.
     pub(crate) wait: u32,
-    /// What is left of the time for which transfers rest.
-    pub(crate) rest: u32,
 }
 
 impl Hold {
@@ -109,16 +104,15 @@ impl Hold {
             pause: 0,
             age: 0,
             wait: 0,
-            rest: 0,
         }
     }
 
-    /// Begins anew at another address, at the same moment. What rests goes on to rest.
+    /// Begins anew at another address, at the same moment, and as old.
     pub(crate) fn moved(self) -> Hold
         ensures { result ≡ moved self }
     {
         let mut hold = Hold::new().passed_to(self.moment);
-        hold.rest = self.rest;
+        hold.age = self.age;
         hold
     }
 
@@ -144,7 +138,6 @@ impl Hold {
             pause: left_of(self.pause, step),
             age: self.age.saturating_add(step),
             wait: left_of(self.wait, step),
-            rest: left_of(self.rest, step),
         }
     }
 
@@ -177,7 +170,6 @@ impl Hold {
             pause: self.pause,
             age: self.age,
             wait: self.wait,
-            rest: self.rest,
         }
     }
 
@@ -213,7 +205,6 @@ impl Hold {
             pause: self.pause,
             age: self.age,
             wait: self.wait,
-            rest: self.rest,
         }
     }
 
@@ -259,25 +250,6 @@ impl Hold {
         self
     }
 
-    /// A transfer was accepted.
-    pub(crate) fn renewed(self) -> Hold
-        ensures { result ≡ renewed self }
-    {
-        Hold {
-            moment: self.moment,
-            standing: self.standing,
-            owes_claim: self.owes_claim,
-            turns: self.turns,
-            yields: self.yields,
-            patience: self.patience,
-            delay: self.delay,
-            pause: self.pause,
-            age: 0,
-            wait: self.wait,
-            rest: self.rest,
-        }
-    }
-
     /// A message was taken: whether it was the request.
     pub(crate) fn asked(self, is_request: bool) -> Hold
         ensures { result ≡ asked is_request self }
@@ -294,31 +266,10 @@ impl Hold {
             pause: self.pause,
             age: self.age,
             wait,
-            rest: self.rest,
         }
     }
 
-    /// The end of a transfer was told: whether one rests by it.
-    pub(crate) fn rested(self, rests: bool) -> Hold
-        ensures { result ≡ rested rests self }
-    {
-        let rest = if rests { REST_TIME } else { self.rest };
-        Hold {
-            moment: self.moment,
-            standing: self.standing,
-            owes_claim: self.owes_claim,
-            turns: self.turns,
-            yields: self.yields,
-            patience: self.patience,
-            delay: self.delay,
-            pause: self.pause,
-            age: self.age,
-            wait: self.wait,
-            rest,
-        }
-    }
-
-    /// The moment that the open transfer is at, counted from its acceptance.
+    /// The time of the transfers.
     pub(crate) fn clock(self) -> Stamp
         ensures { stamp_micros result ≡ min self.age 9999999999999999 }
     {

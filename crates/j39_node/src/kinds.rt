@@ -1,7 +1,6 @@
 //! What calls answer.
 ghost use Rattle.std.specs.Prelude.{◌≡◌};
 ghost use Rattle.j39_node.specs.History.{control_of};
-ghost use Rattle.j39_node.specs.Transfers.{rests_after};
 
 /// How a message that was accepted ended.
 #[derive(Clone, Copy, Debug, PartialEq, Eq)]
@@ -10,34 +9,6 @@ pub enum Ending {
     Done,
     /// The address was lost before, or the program took it back.
     Withdrawn,
-}
-
-/// How a transfer that was accepted ended.
-#[derive(Clone, Copy, Debug, PartialEq, Eq)]
-pub enum TransferEnding {
-    /// Its destination acknowledged it.
-    Done,
-    /// The address was lost before.
-    Withdrawn,
-    /// It was aborted: by its destination for this reason, for 3 where that was silent, for 5 where that cleared nothing new too
-    /// often. It may have arrived all the same.
-    Failed(u8),
-    /// Who held its destination's address no longer does.
-    Gone,
-}
-
-impl TransferEnding {
-    /// Its group isn't sent to its destination again for a while.
-    pub(crate) fn rests(self) -> bool
-        ensures { result ≡ rests_after self }
-    {
-        match self {
-            TransferEnding::Done => false,
-            TransferEnding::Withdrawn => true,
-            TransferEnding::Failed(_reason) => true,
-            TransferEnding::Gone => true,
-        }
-    }
 }
 
 /// How a request that was accepted ended (J1939-21, 5.4.2 and 5.4.4).
@@ -63,8 +34,8 @@ pub enum Refused {
     /// of a request to all.
     BadValue,
     /// Sixteen messages are accepted and not told to have ended; a broadcast is, or a transfer, or a request; sixteen
-    /// acknowledgments are due. Where none is: a transfer of this group to this address ended without acknowledgment less than 4
-    /// seconds ago, or after others did.
+    /// acknowledgments are due. Where none is: a transfer of this group to this address rests since less than 4 seconds, or sixteen
+    /// others do.
     Full,
 }
 

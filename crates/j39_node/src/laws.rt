@@ -162,7 +162,7 @@ pub fn received()
 {}
 
 /// A claim that is owed is taken at once, but 'cannot claim' waits for the delay that `new` was given, from when the address is
-/// lost, a request for claims is heard, or `again` is called; then it is, and no frame goes before it. After `again` the next
+/// lost, or (`delayed`) a request for claims is heard or `again` is called; then it is, and no frame goes before it. After `again` the next
 /// frame taken is the claim, where the address isn't lost. After a frame was heard that a claim answers (another's claim of the
 /// address, a request for claims, or another's frame from the address that is held, unless such a one was answered in the 5
 /// seconds before), the next frame taken is its claim, or 'cannot claim' where the address is lost, unless that gives way; then
@@ -231,7 +231,7 @@ pub fn quiet_till_due()
         → Is w (At now (TakeFrame answer) ∷ H) c → next_due w H ≡ Some (moment H) → answer ≢ None }
     ensures taken { (w : Who) (H : List Call) (c : Controller) (now t : ℕ) (answer : Option FrameRecord)
         → Is w (At now (TakeFrame answer) ∷ H) c → next_due w H ≡ Some t → t ≤ now → IsTrue (is_held (address_after w H))
-        → age H + step H t < 10000000000000000 → answer ≢ None }
+        → age w H + step H t < 10000000000000000 → answer ≢ None }
     ensures ticks { (w : Who) (H : List Call) (now later : ℕ) → moment H ≤ now → now ≤ later
         → holds w (At now Tick ∷ H) later ≡ holds w H later }
 {}
@@ -417,7 +417,7 @@ pub fn acknowledged_is_there()
         → slice_get y.bytes 0 ≡ Some 17 → slice_get y.bytes 1 ≡ Some n → n ≤ w.window }
 {}
 
-/// A frame taken that belongs to a session, goes to an address and is none of the open transfer is the first reply that waits: it
+/// A frame taken that belongs to a session, goes to an address and is none of a transfer of its own is the first reply that waits: it
 /// comes from the address that is held, behind claims, acknowledgments and an overdue frame of a broadcast, and before all else
 /// unless it yields, and each is taken once. Where the address is held and no frame is taken, none waits. From an address that is
 /// lost nothing is said.
@@ -456,13 +456,13 @@ pub fn strangers()
         → without (source_of f.id) (reception w (At now (Hear f) ∷ H)).replies ≡ without (source_of f.id) (reception w H).replies }
 {}
 
-/// What is heard accepts nothing, sends nothing and tells no end. A frame that doesn't go to its address, and is neither a claim nor a
-/// request, changes nothing of what is sent: at any moment the next frame is the one where time alone passed, and none was taken.
+/// What is heard accepts nothing, sends nothing and tells no end. A frame that neither goes to its address nor comes from it, and is
+/// neither a claim nor a request, changes nothing of what is sent: at any moment the next frame is the one where time alone passed, and none was taken.
 pub fn strangers_and_sending()
     ensures accepted { (w : Who) (H : List Call) (now : ℕ) (f : FrameRecord) → (accepted w (At now (Hear f) ∷ H) ≡ accepted w H)
         × (broadcasts w (At now (Hear f) ∷ H) ≡ broadcasts w H) × (transfers w (At now (Hear f) ∷ H) ≡ transfers w H) × (asks (At now (Hear f) ∷ H) ≡ asks H) }
-    ensures sent { (w : Who) (H : List Call) (now : ℕ) (f : FrameRecord) → (sent (At now (Hear f) ∷ H) ≡ sent H) × (packets (At now (Hear f) ∷ H) ≡ packets H)
-        × (moves w (At now (Hear f) ∷ H) ≡ moves w H) × (acknowledged (At now (Hear f) ∷ H) ≡ acknowledged H) }
+    ensures sent { (w : Who) (H : List Call) (now a : ℕ) (f : FrameRecord) → (sent (At now (Hear f) ∷ H) ≡ sent H) × (packets (At now (Hear f) ∷ H) ≡ packets H)
+        × (moves w a (At now (Hear f) ∷ H) ≡ moves w a H) × (acknowledged (At now (Hear f) ∷ H) ≡ acknowledged H) }
     ensures told { (H : List Call) (now : ℕ) (f : FrameRecord) → (told (At now (Hear f) ∷ H) ≡ told H) × (told_broadcasts (At now (Hear f) ∷ H) ≡ told_broadcasts H)
         × (told_transfers (At now (Hear f) ∷ H) ≡ told_transfers H) × (told_asks (At now (Hear f) ∷ H) ≡ told_asks H) }
     ensures broadcast { (w : Who) (H : List Call) (now : ℕ) (f : FrameRecord) → open_broadcast w (At now (Hear f) ∷ H) ≡ open_broadcast w H }

@@ -25,7 +25,8 @@ mod transfers;
 mod turn;
 
 pub use controller::Controller;
-pub use kinds::{Answer, AskEnding, Ending, News, Refused, TransferEnding};
+pub use j39_transfers::Ending as TransferEnding;
+pub use kinds::{Answer, AskEnding, Ending, News, Refused};
 pub use received::Received;
 pub use requests::Request;
 pub use setup::Setup;

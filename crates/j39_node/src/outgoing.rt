@@ -7,6 +7,7 @@ ghost use Rattle.j39_frame.specs.Stamp.{stamp_micros};
 ghost use Rattle.j39_node.specs.declared.kinds.Ending.TheVariants.{Done, Withdrawn};
 ghost use Rattle.j39_node.specs.Reception.{asked_whom};
 ghost use Rattle.j39_node.specs.History.{blank, is_blank, past, can_send, is_sendable, message_from, is_directed, nothing, is_alike, is_one, latest};
+ghost use Rattle.j39_node.specs.Transfers.{can_transfer};
 ghost use Rattle.j39_node.specs.Is.{who_of, may_go, place_of, posted, stamped, Renews};
 
 use crate::Ending;
@@ -14,6 +15,7 @@ use crate::incoming::whom;
 use crate::own::{ACKNOWLEDGMENT, ADDRESS_CLAIMED, Own, asks_for, claim_id, is_own_group};
 use arrayvec::ArrayVec;
 use j39_frame::{Frame, GLOBAL_ADDRESS, Id, NULL_ADDRESS, Pgn, Stamp};
+use j39_transport::{LONGEST, SHORTEST};
 
 /// A message of one frame, with its token.
 #[derive(Drop)]
@@ -223,6 +225,15 @@ fn can_send(own: &Own, priority: u8, group: Pgn, to: u8, bytes: &[u8]) -> bool
         && is_sendable(group)
         && (to == GLOBAL_ADDRESS || (to < NULL_ADDRESS && !(to == own.address)))
         && bytes.len() <= 8
+}
+
+/// Whether it can be sent in packets to this address.
+pub(crate) fn can_transfer(own: &Own, group: Pgn, to: u8, bytes: &[u8]) -> bool
+    ensures { result ≡ can_transfer (who_of nothing own.now) (pgn_raw group) to bytes.now }
+{
+    is_sendable(group)
+        && (SHORTEST <= bytes.len() && bytes.len() <= LONGEST)
+        && (to < NULL_ADDRESS && !(to == own.address))
 }
 
 /// Whether an identifier can have the group, and the stack itself doesn't speak it.

@@ -46,8 +46,9 @@ pub(crate) struct Own {
     pub(crate) subscribed: Option<ArrayVec<u32, 64>>,
     /// How many broadcasts in packets are heard at once.
     pub(crate) boxes: u8,
-    /// How many messages in packets to its address, and how many packets it grants at once at most; 0 sets no limit.
+    /// How many messages in packets to its address, and from it; and how many packets it grants at once at most, 0 sets no limit.
     pub(crate) sessions: u8,
+    pub(crate) transfers: u8,
     pub(crate) window: u8,
     pub ghost fits: { IsAddress address },
 }
@@ -73,6 +74,7 @@ impl Own {
             subscribed: subscriptions(setup.subscribed)?,
             boxes: setup.broadcasts,
             sessions: setup.sessions,
+            transfers: setup.transfers,
             window: setup.window,
         })
     }

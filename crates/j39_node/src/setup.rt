@@ -22,6 +22,9 @@ pub struct Setup<'a> {
     /// How many messages in packets to its address come in at once, one of each source, or wait for the program: each takes a box of
     /// 3.7 kB. Where none is free, another is refused (abort 2; J1939-21, 5.10.3.4).
     pub sessions: u8,
+    /// How many messages it sends in packets to others' addresses at once, one to each, or hasn't told to have ended: each takes a box of
+    /// 1.9 kB.
+    pub transfers: u8,
     /// How many packets it lets a sender send at once (by a CTS; J1939-21, 5.10.3.2); 0 sets no limit. What its driver can't take at
     /// once is lost: 16 is enough for most (own).
     pub window: u8,

@@ -16,7 +16,7 @@ pub(crate) enum Turn {
     Single,
     /// A frame of the open broadcast.
     Packet,
-    /// A frame of the open transfer.
+    /// A frame of a transfer.
     Move,
 }
 
@@ -32,7 +32,7 @@ pub(crate) struct Ready {
 }
 
 impl Ready {
-    /// What goes first: an overdue frame, a reply, unless it yields, a message, a frame of the open broadcast, one of the open
+    /// What goes first: an overdue frame, a reply, unless it yields, a message, a frame of the open broadcast, one of a
     /// transfer.
     pub(crate) fn turn(self, yields: bool) -> Option<Turn>
         ensures { result ≡ turn_of yields self }

@@ -3,6 +3,7 @@ pub mod Common
 -- the report as records and as objects: a message's entries
 pub mod JsonLemmas
 pub mod EntryLemmas
+pub mod ForwardLemmas
 pub mod RecordLemmas
 pub mod ObjectLemmas
 pub mod QuoteLemmas

@@ -73,7 +73,7 @@ numbers-more es e = ap range_of (filter_map-append number_of es (e ∷ [])) ∙ 
 
 -- ---- a row with one entry more
 
-abbrev row_over : Entry → List Entry → Row
+abbrev pub row_over : Entry → List Entry → Row
 row_over first es = record {
   first = first;
   last = last_of first es;
@@ -82,7 +82,7 @@ row_over first es = record {
   range = range_of (filter_map number_of es);
 }
 
-row_over-more : (first : Entry) (es : List Entry) (e : Entry) → row_over first (es ++ e ∷ []) ≡ grown (row_over first es) e
+pub row_over-more : (first : Entry) (es : List Entry) (e : Entry) → row_over first (es ++ e ∷ []) ≡ grown (row_over first es) e
 row_over-more first es e = λ i. record {
   first = first;
   last = last_of-more first es e i;
@@ -91,67 +91,7 @@ row_over-more first es e = λ i. record {
   range = numbers-more es e i;
 }
 
--- the row, grown where the entry is of its origin
-abbrev pub stepped : Entry → Row → Row
-stepped e r = if have_one_origin e r.first then grown r e else r
-
-values-more : (first : Entry) (es : List Entry) (e : Entry)
-    → values_like first (es ++ e ∷ []) ≡ values_like first es ++ filter (have_one_origin first) (e ∷ [])
-values-more first es e = filter-append (have_one_origin first) es (e ∷ [])
-
-row_of-more : (es : List Entry) (e first : Entry) → row_of (es ++ e ∷ []) first ≡ stepped e (row_of es first)
-row_of-more es e first = ap (row_over first) (values-more first es e) ∙ by (have_one_origin e first) refl
-  where
-    by : (b : Bool) → have_one_origin e first ≡ b → row_over first (values_like first es ++ filter (have_one_origin first) (e ∷ [])) ≡ stepped e (row_of es first)
-    by true one =
-        let turned = same_sym first e ∙ one in
-        rw (one, turned) (row_over-more first (values_like first es) e)
-    by false other =
-        let turned = same_sym first e ∙ other in
-        rw (other, turned) (ap (row_over first) (append-nil (values_like first es)))
-
--- ---- the rows with one entry more
-
--- the rows, with the entry in the row of its origin or in a new one
-unfoldable pub bumped : Entry → List Row → List Row
-bumped e [] = begun e ∷ []
-bumped e (r ∷ rows) = if have_one_origin e r.first then grown r e ∷ rows else r ∷ bumped e rows
-
-any_like : (e f : Entry) (fs : List Entry) → have_one_origin e f ≡ true → list_any (have_one_origin e) fs ≡ list_any (have_one_origin f) fs
-any_like e f fs one = ap (λ (p : Entry → Bool). list_any p fs) (λ i g. same_like e f g one i)
-
-row_same : (es : List Entry) (e f : Entry) → have_one_origin e f ≡ false → row_of (es ++ e ∷ []) f ≡ row_of es f
-row_same es e f other = rw other at (row_of-more es e f)
-
-row_grown : (es : List Entry) (e f : Entry) → have_one_origin e f ≡ true → row_of (es ++ e ∷ []) f ≡ grown (row_of es f) e
-row_grown es e f one = rw one at (row_of-more es e f)
-
--- where no first entry is of its origin
-same_rows : (es : List Entry) (e : Entry) (fs : List Entry) → list_any (have_one_origin e) fs ≡ false → map (row_of (es ++ e ∷ [])) fs ≡ map (row_of es) fs
-same_rows es e [] none = refl
-same_rows es e (f ∷ fs) none = by (have_one_origin e f) refl (same_rows es e fs)
-  where
-    by : (b : Bool) → have_one_origin e f ≡ b → (list_any (have_one_origin e) fs ≡ false → map (row_of (es ++ e ∷ [])) fs ≡ map (row_of es) fs)
-        → map (row_of (es ++ e ∷ [])) (f ∷ fs) ≡ map (row_of es) (f ∷ fs)
-    by true one rest = absurd (both_ways _ none (rw one refl))
-    by false other rest = ap₂ (λ r rs. r ∷ rs) (row_same es e f other) (rest (rw other at none))
-
-bumped_rows : (es : List Entry) (e : Entry) (fs : List Entry) → AreApart fs
-    → bumped e (map (row_of es) fs) ≡ map (row_of (es ++ e ∷ [])) fs ++ (if list_any (have_one_origin e) fs then [] else begun e ∷ [])
-unfolding bumped
-bumped_rows es e [] apart = refl
-bumped_rows es e (f ∷ fs) apart = by (have_one_origin e f) refl (bumped_rows es e fs apart.1)
-  where
-    by : (b : Bool) → have_one_origin e f ≡ b
-        → bumped e (map (row_of es) fs) ≡ map (row_of (es ++ e ∷ [])) fs ++ (if list_any (have_one_origin e) fs then [] else begun e ∷ [])
-        → (if have_one_origin e f then grown (row_of es f) e ∷ map (row_of es) fs else row_of es f ∷ bumped e (map (row_of es) fs))
-        ≡ map (row_of (es ++ e ∷ [])) (f ∷ fs) ++ (if list_any (have_one_origin e) (f ∷ fs) then [] else begun e ∷ [])
-    by true one rest =
-        let others = any_like e f fs one ∙ apart.0 in
-        rw one (ap₂ (λ r rs. r ∷ rs) (sym (row_grown es e f one)) (sym (same_rows es e fs others) ∙ sym (append-nil (map (row_of (es ++ e ∷ [])) fs))))
-    by false other rest = rw other (ap₂ (λ r rs. r ∷ rs) (sym (row_same es e f other)) rest)
-
-begun_row : (e : Entry) → row_over e (e ∷ []) ≡ begun e
+pub begun_row : (e : Entry) → row_over e (e ∷ []) ≡ begun e
 unfolding last_of range_of
 begun_row e = λ i. record {
   first = e;
@@ -168,28 +108,6 @@ begun_row e = λ i. record {
     one_number : (o : Option Number) → number_of e ≡ o → range_of (filter_map number_of (e ∷ [])) ≡ widened None (number_of e)
     one_number None is = rw is refl
     one_number (Some m) is = rw is refl
-
-new_row : (es : List Entry) (e : Entry) → list_any (have_one_origin e) es ≡ false → row_of (es ++ e ∷ []) e ≡ begun e
-new_row es e none =
-    let self = same_self e in
-    let last : filter (have_one_origin e) (e ∷ []) ≡ e ∷ [] = rw self refl in
-    let values : values_like e (es ++ e ∷ []) ≡ e ∷ [] =
-    values-more e es e ∙ ap₂ (λ xs ys. xs ++ ys) (filter_unlisted (have_one_origin e) es none) last in
-    ap (row_over e) values ∙ begun_row e
-
-new_rows : (es : List Entry) (e : Entry) → map (row_of (es ++ e ∷ [])) (if_new e es) ≡ (if list_any (have_one_origin e) es then [] else begun e ∷ [])
-new_rows es e = by (list_any (have_one_origin e) es) refl
-  where
-    by : (b : Bool) → list_any (have_one_origin e) es ≡ b → map (row_of (es ++ e ∷ [])) (if_new e es) ≡ (if list_any (have_one_origin e) es then [] else begun e ∷ [])
-    by true some = rw some refl
-    by false none = rw none (ap (λ r. r ∷ []) (new_row es e none))
-
-pub summary_of-more : (es : List Entry) (e : Entry) → summary_of (es ++ e ∷ []) ≡ bumped e (summary_of es)
-summary_of-more es e =
-    let row = row_of (es ++ e ∷ []) in
-    ap (map row) (firsts-more es e) ∙ map-append row (firsts es) (if_new e es)
-    ∙ ap (λ rs. map row (firsts es) ++ rs) (new_rows es e ∙ ap (λ b. if b then [] else begun e ∷ []) (sym (first_of_each e es)))
-    ∙ sym (bumped_rows es e (firsts es) (firsts_apart es))
 
 -- the rows have the origins of the entries
 pub origins_listed : (es : List Entry) (e : Entry) → list_any (λ r. have_one_origin e r.first) (summary_of es) ≡ list_any (have_one_origin e) es

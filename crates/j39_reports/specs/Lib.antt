@@ -10,6 +10,7 @@ pub mod Json
 pub mod EntryObject
 pub mod ReportObjects
 -- the report as records and as objects: the code's steps
+pub mod Forwards
 pub mod MessageEntries
 pub mod MessageRecords
 pub mod MessageObjects

@@ -1,5 +1,5 @@
 -- The steps of a message's entries in whatever form, reading by reading.
-use Rattle.std.specs.Prelude.{◌≡◌, ℕ, List, Result, Ok, Err, length, map}
+use Rattle.std.specs.Prelude.{◌≡◌, ◌++◌, ℕ, List, Result, Ok, Err, length, map}
 use Rattle.std.specs.List.{flat_map}
 use Rattle.j39_io.specs.Puts.{Puts}
 use Rattle.j39_io.specs.Turn.{Device}
@@ -24,10 +24,12 @@ abbrev pub PutsReadings : Form → Begun → Device → List ReadingRecord → R
 PutsReadings form begun writer readings result =
     Puts (readings_text form begun readings) result (record { old = begun.writer; new = writer })
 
--- so many entries, those of these readings, were written, and no fault came
-pub record HaveWritten (form : Form) (begun : Begun) (lines : ℕ) (writer : Device) (readings : List ReadingRecord)
+-- so many entries, those of these readings, were written but for those that wait, and no fault came
+pub record HaveWritten (form : Form) (begun : Begun) (lines : ℕ) (writer : Device) (waiting : List ℕ) (readings : List ReadingRecord)
     : Type 0 where
-  pub written : PutsReadings form begun writer readings (Ok tt)
+  pub done : List ℕ
+  pub written : Puts {T = Unit {0}} {E = Unit {0}} done (Ok tt) (record { old = begun.writer; new = writer })
+  pub all : done ++ waiting ≡ readings_text form begun readings
   pub lines_are : lines ≡ capped (length readings)
 
 -- a fault came in the entry of the last of these readings

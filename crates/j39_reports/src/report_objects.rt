@@ -3,7 +3,6 @@
 mod object_head;
 mod object_sides;
 mod objects;
-mod prepared_object;
 mod quick_object;
 mod run;
 

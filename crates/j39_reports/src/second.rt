@@ -57,8 +57,17 @@ impl Second {
         ensures { self.new.value ≡ value }
     {
         if self.value != value {
-            *self = Second::new(value);
+            self.turn(value);
         }
+    }
+
+    /// Makes the texts of this second.
+    #[inline(never)]
+    fn turn(&mut self, value: u64)
+        requires { value < 10 ^ 10 }
+        ensures { self.new.value ≡ value }
+    {
+        *self = Second::new(value);
     }
 
     /// Writes the seconds of a stamp, a comma, and the same moment in UTC.

@@ -1,17 +1,31 @@
 //! What stands on both sides of the values of a parameter, and what is said of a group, remembered: most values are of a few
 //! parameters.
-ghost use Rattle.std.specs.Prelude.{◌≡◌, ◌<◌, ◌≤◌, ℕ, List, Option, IfSome, Some, false, option_map, slice_index_or, true};
+ghost use Rattle.std.specs.Prelude.{◌≡◌, ◌<◌, ◌≤◌, ℕ, List, None, Option, IfSome, Some, false, length, option_map, slice_index_or, true};
 ghost use Rattle.std.proofs.Props.{props};
 ghost use Rattle.j39_io.specs.Backwards.{WritesBefore};
-ghost use Rattle.j39_reports.specs.SidesSoFar.{AreKnown, AreKnownGroups, Suits, SuitsGroup, is_open_to, missed_by};
+ghost use Rattle.j39_groups.specs.Models.{value_of};
+ghost use Rattle.j39_groups.specs.Value.{ValueRecord};
+ghost use Rattle.j39_reports.specs.EntryObject.{unit_in};
+ghost use Rattle.j39_reports.specs.SidesSoFar.{AreKnown, AreKnownGroups, IsBehind, Suits, SuitsGroup, is_open_to, missed_by};
 
 use j39_frame::Pgn;
-use j39_groups::Groups;
+use j39_groups::{Groups, Value};
 use j39_io::backwards::slice_before;
 use std::marker::PhantomData;
 
-/// The bytes of a block that a side fits in.
+/// Where a side ends in its block, which is as long again as copies of it are.
 pub(crate) const SIDE: usize = 96;
+
+/// The most bytes of what stands behind a value.
+pub(crate) const BEHIND: usize = 48;
+
+/// The bytes of these blocks.
+const BEFORE_BLOCK: usize = 2 * SIDE;
+
+const BEHIND_BLOCK: usize = SIDE + BEHIND;
+
+/// The most bytes of a value, and where it ends in its block.
+pub(crate) const VALUE: usize = 40;
 
 /// The most bytes of a unit that sides are remembered for.
 const UNIT: usize = 16;
@@ -27,25 +41,38 @@ pub(crate) trait SideForm {
     // Before it, behind what each entry of a message begins with: of a parameter (SPN) and what it is called.
     ghost before: { ℕ → Option (List ℕ) → List ℕ };
 
-    // Behind it, of a unit, where its state has no name.
-    ghost behind: { List ℕ → List ℕ };
+    // The value itself.
+    ghost value_text: { ValueRecord → List ℕ };
+
+    // Behind it, of its unit if it has one, where its state has no name.
+    ghost behind: { Option (List ℕ) → List ℕ };
 
     // Of a group (PGN) and what it is called.
     ghost of_group: { ℕ → Option (List ℕ) → List ℕ };
 
-    /// Writes what stands before a value at the end of a block. `None`, and nothing of use is written, where that is long, or
-    /// the name doesn't stand as it is.
-    fn write_before(out: &mut [u8; SIDE], spn: u32, name: &[u8]) -> Option<usize>
+    /// Writes what stands before a value up to the place 96. `None`, and nothing of use is written, where that is long, or the
+    /// name doesn't stand as it is.
+    fn write_before(out: &mut [u8], spn: u32, name: &[u8]) -> Option<usize>
+        requires { 96 ≤ length out.old }
         ensures written { IfSome result (λ start. WritesBefore out.old out.new 96 start (before spn (Some name.now))) }
         ensures within { IfSome result (λ start. start ≤ 96) };
 
-    /// Writes what stands behind a value at the end of a block, and answers as `write_before`.
-    fn write_behind(out: &mut [u8; SIDE], unit: &[u8]) -> Option<usize>
-        ensures written { IfSome result (λ start. WritesBefore out.old out.new 96 start (behind unit.now)) }
+    /// Writes a value up to the place 40. `None`, and nothing of use is written, for a text of the sender's, and a number with
+    /// more than fifteen places.
+    fn write_value(out: &mut [u8; 80], value: Value<'_, '_>) -> Option<usize>
+        ensures written { IfSome result (λ start. WritesBefore out.old out.new 40 start (value_text (value_of value.entry))) }
+        ensures within { IfSome result (λ start. start ≤ 40) };
+
+    /// Writes what stands behind a value, and answers as `write_before`.
+    fn write_behind(out: &mut [u8], unit: Option<&[u8]>) -> Option<usize>
+        requires { 96 ≤ length out.old }
+        ensures written { IfSome result (λ start. WritesBefore out.old out.new 96 start
+            (behind (option_map (λ text. text.now) unit.entry))) }
         ensures within { IfSome result (λ start. start ≤ 96) };
 
-    /// Writes what is said of a group at the end of a block, and answers as `write_before`.
-    fn write_group(out: &mut [u8; SIDE], pgn: u32, name: Option<&[u8]>) -> Option<usize>
+    /// Writes what is said of a group, and answers as `write_before`.
+    fn write_group(out: &mut [u8], pgn: u32, name: Option<&[u8]>) -> Option<usize>
+        requires { 96 ≤ length out.old }
         ensures written { IfSome result (λ start. WritesBefore out.old out.new 96 start
             (of_group pgn (option_map (λ text. text.now) name.entry))) }
         ensures within { IfSome result (λ start. start ≤ 96) };
@@ -106,20 +133,46 @@ impl GroupSide {
     }
 }
 
-/// What stands on both sides of the values of a parameter of a group: the bytes of blocks from a place on.
+/// What stands behind a value: the bytes of a block from a place up to its 96th.
+#[derive(Clone, Copy)]
+pub(crate) struct Behind {
+    pub text: [u8; BEHIND_BLOCK],
+    pub from: usize,
+}
+
+impl Behind {
+    /// With nothing.
+    const NONE: Behind = Behind {
+        text: [0; BEHIND_BLOCK],
+        from: SIDE,
+    };
+
+    /// That of a unit, or of none; `None` where it is long, or doesn't stand as it is.
+    fn of<F: SideForm>(unit: Option<&[u8]>) -> Option<Behind>
+        ensures { IfSome result (λ behind. IsBehind F.behind (option_map (λ text. text.now) unit.entry) behind) }
+    {
+        let mut text = [0; BEHIND_BLOCK];
+        let from = F::write_behind(&mut text, unit)?;
+        if from < SIDE - BEHIND {
+            return None;
+        }
+        Some(Behind { text, from })
+    }
+}
+
+/// What stands on both sides of the values of a parameter of a group: the bytes of blocks from a place up to the 96th.
 #[derive(Clone, Copy)]
 pub(crate) struct Sides {
     pgn: u32,
     spn: u32,
     /// Whether it is here.
     is_ready: bool,
-    pub before: [u8; SIDE],
+    pub before: [u8; BEFORE_BLOCK],
     pub before_from: usize,
     /// The unit that the second is of.
-    pub unit: [u8; UNIT],
-    pub unit_from: usize,
-    pub behind: [u8; SIDE],
-    pub behind_from: usize,
+    unit: [u8; UNIT],
+    unit_from: usize,
+    behind: Behind,
 }
 
 impl Sides {
@@ -131,12 +184,11 @@ impl Sides {
             pgn,
             spn,
             is_ready: false,
-            before: [0; SIDE],
+            before: [0; BEFORE_BLOCK],
             before_from: SIDE,
             unit: [0; UNIT],
             unit_from: UNIT,
-            behind: [0; SIDE],
-            behind_from: SIDE,
+            behind: Behind::NONE,
         }
     }
 
@@ -161,10 +213,9 @@ impl Sides {
             return None;
         }
         let name = groups.name_alone_in(pgn, spn)?;
-        let mut before = [0; SIDE];
+        let mut before = [0; BEFORE_BLOCK];
         let before_from = F::write_before(&mut before, spn, name)?;
-        let mut behind = [0; SIDE];
-        let behind_from = F::write_behind(&mut behind, unit)?;
+        let behind = Behind::of::<F>(Some(unit))?;
         let mut own_unit = [0; UNIT];
         let unit_from = slice_before(&mut own_unit, UNIT, unit);
         Some(Sides {
@@ -176,7 +227,6 @@ impl Sides {
             unit: own_unit,
             unit_from,
             behind,
-            behind_from,
         })
     }
 
@@ -211,9 +261,12 @@ pub(crate) fn note<'t>(last: &mut Option<Missed<'t>>, missed: Option<Missed<'t>>
 pub(crate) struct KnownSides<'g, 't, F: SideForm> {
     pub groups: &'g Groups<'t>,
     known: [Sides; PLACES],
+    /// What stands behind a value without a unit.
+    unitless: Option<Behind>,
     called: [GroupSide; GROUPS],
     form: PhantomData<F>,
     ghost sound: { AreKnown F.before F.behind groups.now known } by { Prim.hlevel props },
+    ghost unitless_sound: { IfSome unitless (IsBehind F.behind None) } by { Prim.hlevel props },
     ghost groups_sound: { AreKnownGroups F.of_group groups.now called } by { Prim.hlevel props },
 }
 
@@ -225,6 +278,7 @@ impl<'g, 't, F: SideForm> KnownSides<'g, 't, F> {
         KnownSides {
             groups,
             known: [Sides::none(u32::MAX, 0); PLACES],
+            unitless: Behind::of::<F>(None),
             called: [GroupSide::none(u32::MAX); GROUPS],
             form: PhantomData,
         }
@@ -266,6 +320,24 @@ impl<'g, 't, F: SideForm> KnownSides<'g, 't, F> {
         ensures spn { IfSome result (λ sides. sides.now.spn ≡ spn) }
     {
         sides_at(&self.known, pgn, spn)
+    }
+
+    /// What stands behind a value of this unit, if it has one: what these sides have where they are of this unit.
+    #[inline(always)]
+    pub fn behind_of<'s>(&'s self, sides: &'s Sides, unit: Option<&[u8]>) -> Option<&'s Behind>
+        requires { Suits F.before F.behind self.now.groups.now sides.now }
+        ensures { IfSome result (λ behind. IsBehind F.behind (option_map (λ text. text.now) unit.entry) behind.now) }
+    {
+        match unit {
+            None => self.unitless.as_ref(),
+            Some(unit) => {
+                if unit == &sides.unit[sides.unit_from..] {
+                    Some(&sides.behind)
+                } else {
+                    None
+                }
+            }
+        }
     }
 
     /// What can be learned of a parameter of a group: nothing where another holds its place, or it has no sides, or they are of
@@ -346,4 +418,20 @@ fn place_of(pgn: u32, spn: u32) -> usize
     ensures { result < 256 }
 {
     ((spn ^ pgn).wrapping_mul(0x9E37_79B1) >> 24) as usize
+}
+
+/// The unit of a number.
+#[tactic(auto, unfolding(crate::specs::EntryObject::unit_in))]
+pub(crate) fn unit_in<'t>(value: Value<'t, '_>) -> Option<&'t [u8]>
+    ensures { option_map (λ unit. unit.now) result ≡ unit_in (value_of value.entry) }
+{
+    match value {
+        Value::Number(_, scale) => Some(scale.unit()),
+        Value::On => None,
+        Value::Off => None,
+        Value::Error => None,
+        Value::Reserved => None,
+        Value::Indicator => None,
+        Value::Text(_) => None,
+    }
 }

@@ -1,5 +1,5 @@
 -- The interfaces of some frames, and of one more.
-use Rattle.j39_survey.proofs.Common.{◌≡◌, ◌==◌, ◌||◌, ◌+◌, ◌++◌, ◌<◌, ◌≤◌, ℕ, List, [], ◌∷◌, Bool, true, false, not, length, refl, sym, ap, ap₂, ◌∙◌, append-nil, arith, map, take, take_all, length-take, drop, take-append-drop, subst, zero, suc, get_or, or-false, if◌then◌else◌, nat_lt, list_any, refill, bytes_eq, le-ltb, ne_eqb, or_right, set, length-map, map-append, take_more, take-append-le, filter_map-append, list_any-append, capped}
+use Rattle.j39_survey.proofs.Common.{◌≡◌, ◌==◌, ◌||◌, ◌+◌, ◌++◌, ◌<◌, ◌≤◌, ℕ, List, [], ◌∷◌, Bool, true, false, not, length, refl, sym, ap, ap₂, ◌∙◌, append-nil, arith, map, take, take_all, length-take, drop, take-append-drop, subst, zero, suc, Option, Some, None, unwrap_or, get_or, AllByRecursion, or-false, if◌then◌else◌, nat_lt, list_any, refill, bytes_eq, le-ltb, ne_eqb, or_right, set, length-map, map-append, take_more, take-append-le, filter_map-append, list_any-append, capped}
 use Rattle.j39_survey.specs.Firsts.{firsts}
 use Rattle.j39_listen.specs.Counting.{one_if}
 use Rattle.j39_survey.specs.Interfaces.{InterfaceRecord, elsewhere, falls_behind, falls_in, first_of, interface_of, last_behind, last_of, names_in, of_stamps, stamp_on, stamps_on, told_in, untold_in}
@@ -10,6 +10,11 @@ use Rattle.j39_survey.specs.declared.surveys.interfaces.InterfaceCounts.{Interfa
 use Rattle.j39_survey.specs.declared.surveys.interfaces.Interfaces.{Interfaces}
 use Rattle.std.proofs.lemmas.List.{length_push}
 use Rattle.j39_listen.proofs.CountLemmas.{capped_more, capped_sum, count_by-append}
+use Rattle.std.specs.List.{IsDistinct, position}
+use Rattle.std.proofs.lemmas.List.Quantifiers.{position-Some}
+use Rattle.std.proofs.lemmas.Map.Keys.{apart_from_distinct, IsDistinct-push}
+use Rattle.std.proofs.lemmas.List.{get_or-map, map-set}
+use Rattle.std.proofs.lemmas.List.Folds.{list_any_at}
 use Rattle.j39_survey.proofs.FirstsLemmas.{any_firsts, bytes_refl, bytes_same, firsts-new, firsts-old, firsts_any}
 
 -- ---- one stamp more
@@ -176,6 +181,7 @@ add_told a b seen s h met untold some =
     record {
       told_are = met ∙ ap (map (met_on s.bus s.content.stamp)) h.told_are ∙ map-met seen s (told_in seen) ∙ ap (map (interface_of (seen ++ s ∷ []))) (sym m.0);
       untold_is = untold ∙ h.untold_is ∙ ap capped (sym m.1);
+      apart = subst (IsDistinct bytes_eq) (sym m.0) h.apart;
     }
 
 pub add_full : (a b : Interfaces) (seen : List Seen) (s : Seen) → HaveMet a seen
@@ -188,6 +194,7 @@ add_full a b seen s h met untold none full =
     record {
       told_are = met ∙ ap (map (met_on s.bus s.content.stamp)) h.told_are ∙ map-met seen s (told_in seen) ∙ ap (map (interface_of (seen ++ s ∷ []))) (sym m.0);
       untold_is = untold ∙ capped_more a.untold (untold_in seen) h.untold_is ∙ ap capped (sym m.1);
+      apart = subst (IsDistinct bytes_eq) (sym m.0) h.apart;
     }
 
 -- the interface of the frame alone
@@ -212,7 +219,55 @@ add_new a b i seen s h items met pushed is untold none room =
           ∙ ap₂ (λ (xs : List InterfaceRecord) (x : InterfaceRecord). xs ++ x ∷ []) old (is ∙ new_of seen s m.2)
           ∙ sym (ap (map (interface_of (seen ++ s ∷ []))) m.0 ∙ map-append (interface_of (seen ++ s ∷ [])) (told_in seen) (s.bus ∷ []));
       untold_is = untold ∙ h.untold_is ∙ ap capped (sym m.1);
+      apart = subst (IsDistinct bytes_eq) (sym m.0) (IsDistinct-push (record { refl = bytes_refl; symm = bytes_sym; congr = λ x y z e. ap (λ n. bytes_eq n z) (bytes_same x y e) }) (told_in seen) s.bus h.apart told);
     }
+
+-- ---- one whose place is known
+
+told_names : (seen : List Seen) (names : List (List ℕ)) → map (λ (r : InterfaceRecord). r.name) (map (interface_of seen) names) ≡ names
+unfolding interface_of
+told_names seen [] = refl
+told_names seen (n ∷ names) = ap (λ ns. n ∷ ns) (told_names seen names)
+
+met_none : (name : List ℕ) (stamp : ℕ) (rs : List InterfaceRecord) → AllByRecursion (λ n. bytes_eq name n ≡ false) (map (λ (r : InterfaceRecord). r.name) rs) → map (met_on name stamp) rs ≡ rs
+met_none name stamp [] all = refl
+met_none name stamp (r ∷ rs) all = ap₂ (λ (x : InterfaceRecord) (xs : List InterfaceRecord). x ∷ xs) (rw all.0 refl) (met_none name stamp rs all.1)
+
+-- the name of one is no other's
+met_once : (stamp : ℕ) (rs : List InterfaceRecord) (i : ℕ) (d : InterfaceRecord) → i < length rs → IsDistinct bytes_eq (map (λ (r : InterfaceRecord). r.name) rs)
+    → map (met_on (get_or rs i d).name stamp) rs ≡ set rs i (with_stamp stamp (get_or rs i d))
+unfolding IsDistinct
+met_once stamp [] i d below apart = absurd (omega arith)
+met_once stamp (r ∷ rs) zero d below apart =
+    ap₂ (λ (x : InterfaceRecord) (xs : List InterfaceRecord). x ∷ xs) (rw (bytes_refl r.name) refl) (met_none r.name stamp rs apart.0)
+met_once stamp (r ∷ rs) (suc i) d below apart =
+    let less : i < length rs = omega (arith, below) in
+    let named = get_or-map (λ (r : InterfaceRecord). r.name) rs i d d.name less in
+    let other = apart_from_distinct bytes_eq (map (λ (r : InterfaceRecord). r.name) (r ∷ rs)) 0 (suc i) d.name apart (omega arith) (omega (arith, less, length-map rs (λ (r : InterfaceRecord). r.name))) in
+    ap₂ (λ (x : InterfaceRecord) (xs : List InterfaceRecord). x ∷ xs) (rw (bytes_sym (get_or rs i d).name r.name, sym named, other) refl) (met_once stamp rs i d less apart.1)
+
+pub add_at : (a b : Interfaces) (seen : List Seen) (s : Seen) (i : ℕ) (x d : InterfaceCounts) → HaveMet a seen → i < length a.told.items → b.told.items ≡ set a.told.items i x
+    → interface_record x ≡ with_stamp s.content.stamp (interface_record (get_or a.told.items i d)) → s.bus ≡ (get_or a.told.items i d).name.items → b.untold ≡ a.untold → HaveMet b (seen ++ s ∷ [])
+add_at a b seen s i x d h below changed is named untold =
+    let rs = map interface_record a.told.items in
+    let e = interface_record d in
+    let within : i < length rs = omega (arith, below, length-map a.told.items interface_record) in
+    let here : get_or rs i e ≡ interface_record (get_or a.told.items i d) = get_or-map interface_record a.told.items i d e below in
+    let name : s.bus ≡ (get_or rs i e).name = named ∙ ap (λ (r : InterfaceRecord). r.name) (sym here) in
+    let apart : IsDistinct bytes_eq (map (λ (r : InterfaceRecord). r.name) rs) =
+    subst (IsDistinct bytes_eq) (sym (ap (map (λ (r : InterfaceRecord). r.name)) h.told_are ∙ told_names seen (told_in seen))) h.apart in
+    add_told a b seen s h
+    (ap (map interface_record) changed ∙ map-set interface_record a.told.items i x
+    ∙ ap (set rs i) (is ∙ ap (with_stamp s.content.stamp) (sym here)) ∙ sym (ap (λ n. map (met_on n s.content.stamp) rs) name ∙ met_once s.content.stamp rs i e within apart))
+    untold
+    (list_any_at (λ r. bytes_eq s.bus r.name) rs i e within (ap (λ n. bytes_eq n (get_or rs i e).name) name ∙ bytes_refl (get_or rs i e).name))
+
+-- where one was found it stands
+pub placed_at : (told : List InterfaceCounts) (name : List ℕ) (place : Option ℕ) → place ≡ position (λ (i : InterfaceCounts). bytes_eq i.name.items name) told → length told ≤ 16
+    → (d : InterfaceCounts) → unwrap_or place 16 < length told → Some name ≡ Some (get_or told (unwrap_or place 16) d).name.items
+placed_at told name None e fits d less = absurd (omega (arith, fits, less))
+placed_at told name (Some i) e fits d less =
+    ap (λ (ns : List ℕ). Some ns) (sym (bytes_same _ _ (position-Some (λ (i : InterfaceCounts). bytes_eq i.name.items name) told i d (sym e)).1))
 
 -- ---- one interface after the other
 

@@ -1,12 +1,12 @@
 -- A survey, one line more.
-use Rattle.j39_survey.proofs.Common.{◌≡◌, ◌||◌, ◌+◌, ◌++◌, ℕ, List, [], ◌∷◌, true, false, length, refl, sym, ap, ◌∙◌, append-nil, subst, map, Option, Some, None, ap₂, inl, inr, or-false, or-true, AllByRecursion, filter_map, Err, Ok, OnErr, OnOk, Result, unwrap_or, bytes_eq, cases_Bool, bytes_eq-Decides, map-append, filter_map-append, list_any-append, FrameRecord, capped, Spells, frame, other, unread, blank, NamingRecord, Hearing, or_none, heard_below_unique, bus_of, first_bus, frame_on, frames_of, bus_of-append, bus_of-frame, bus_of-kept, frames_of-append, one_spelled}
+use Rattle.j39_survey.proofs.Common.{◌≡◌, ◌||◌, ◌+◌, ◌++◌, ℕ, List, [], ◌∷◌, true, false, length, refl, sym, ap, ◌∙◌, append-nil, subst, map, Option, Some, None, ap₂, inl, inr, or-false, or-true, AllByRecursion, filter_map, unwrap_or, bytes_eq, cases_Bool, map-append, filter_map-append, list_any-append, FrameRecord, capped, Spells, frame, other, unread, blank, NamingRecord, Hearing, or_none, heard_below_unique, bus_of, first_bus, frame_on, frames_of, bus_of-append, bus_of-frame, bus_of-kept, frames_of-append, one_spelled}
 use Rattle.j39_survey.specs.GroupCounts.{ArePutTogether}
 use Rattle.j39_listen.specs.declared.format.Format.{Format}
 use Rattle.j39_survey.specs.SurveyText.{survey_text}
 use Rattle.j39_survey.specs.LogLines.{AreLogLines, IsSpelled, LogLine, Seen, UnreadRecord, has_form, has_log_line, other_of, others_in, seen_in, seen_of, spelled_in, unread_in}
 use Rattle.j39_log.proofs.LogLemmas.{same_lines}
 use Rattle.j39_survey.specs.OtherLines.{others_of}
-use Rattle.j39_survey.specs.SurveyModels.{HasMet, HasSurveyed, HaveMet, HaveNoted, others_record}
+use Rattle.j39_survey.specs.SurveyModels.{HasMet, HasSurveyed, HaveMet, HaveNoted, IsPlaced, others_record}
 use Rattle.j39_survey.specs.SurveySoFar.{MeetsOnBus}
 use Rattle.j39_survey.specs.declared.surveys.log_survey.Survey.{Survey}
 use Rattle.j39_survey.specs.declared.surveys.traffic.Traffic.{Traffic}
@@ -103,6 +103,9 @@ module _ (lines : List LogLine) (line : LogLine) where
     same_interfaces : seen_of line.spelled ≡ None → b.interfaces ≡ a.interfaces → HaveMet b.interfaces (seen_in (lines ++ line ∷ []))
     same_interfaces none met = rw (seen_kept none, met) h.interfaces_are
 
+    same_place : b.interfaces ≡ a.interfaces → b.bus ≡ a.bus → IsPlaced b.interfaces b.bus
+    same_place met bus = rw (met, bus) h.placed
+
     same_bus : first_bus (line.spelled ∷ []) ≡ None → b.bus ≡ a.bus → b.bus ≡ bus_of given (spelled_in (lines ++ line ∷ []))
     same_bus none bus = bus ∙ h.bus_is ∙ bus_of-kept (bus_of given (spelled_in lines)) line.spelled none ∙ sym (bus_more given)
 
@@ -118,14 +121,15 @@ module _ (lines : List LogLine) (line : LogLine) where
   -- in a frame
   pub surveys_frame : (a b : Survey) (given : Option (List ℕ)) (bus : List ℕ) (f : FrameRecord) → (h : HasSurveyed a given lines) → line.spelled ≡ frame bus f → b.lines ≡ capped (a.lines + 1)
       → ((s : Seen) → s.bus ≡ bus → s.content ≡ f → HaveMet b.interfaces (seen_in lines ++ s ∷ [])) → b.bus ≡ bus_of (bus_of given (spelled_in lines)) (line.spelled ∷ [])
-      → HasMetMore given h.heard b.traffic → b.others ≡ a.others → b.unread ≡ a.unread → b.has_log_line ≡ true → HasSurveyed b given (lines ++ line ∷ [])
-  surveys_frame a b given bus f h is more met bus_is traffic others left form =
+      → IsPlaced b.interfaces b.bus → HasMetMore given h.heard b.traffic → b.others ≡ a.others → b.unread ≡ a.unread → b.has_log_line ≡ true → HasSurveyed b given (lines ++ line ∷ [])
+  surveys_frame a b given bus f h is more met bus_is placed traffic others left form =
       let s : Seen = record { bus = bus; content = f } in
       let seen = seen_more bus f is in
       record {
         lines_are = lines_more a b given h more;
         interfaces_are = rw seen (met s refl refl);
         bus_is = bus_is ∙ sym (bus_more given);
+        placed = placed;
         heard = h.heard ++ or_none traffic.more;
         met = traffic.met;
         others_are = same_others a b given h (rw is refl) others;
@@ -143,6 +147,7 @@ module _ (lines : List LogLine) (line : LogLine) where
         lines_are = lines_more a b given h more;
         interfaces_are = same_interfaces a b given h (rw is refl) met;
         bus_is = same_bus a b given h (rw is refl) bus;
+        placed = same_place a b given h met bus;
         heard = h.heard ++ or_none quiet.more;
         met = quiet.met;
         others_are = others ∙ ap others_of (sym (others_more (rw is refl)));
@@ -162,6 +167,7 @@ module _ (lines : List LogLine) (line : LogLine) where
         lines_are = lines_more a b given h more;
         interfaces_are = same_interfaces a b given h (rw is refl) met;
         bus_is = same_bus a b given h (rw is refl) bus;
+        placed = same_place a b given h met bus;
         heard = h.heard ++ or_none quiet.more;
         met = quiet.met;
         others_are = same_others a b given h (rw is refl) others;
@@ -179,6 +185,7 @@ module _ (lines : List LogLine) (line : LogLine) where
         lines_are = lines_more a b given h more;
         interfaces_are = same_interfaces a b given h (rw is refl) met;
         bus_is = same_bus a b given h (rw is refl) bus;
+        placed = same_place a b given h met bus;
         heard = h.heard ++ or_none quiet.more;
         met = quiet.met;
         others_are = same_others a b given h (rw is refl) others;

@@ -1,7 +1,8 @@
 -- What the code's values show, and what each stands for.
-use Rattle.std.specs.Prelude.{◌≡◌, ◌==◌, ◌/◌, ◌%◌, ◌∷◌, [], ℕ, List, Bool, Option, None, Some, length, map, get_or, option_map}
+use Rattle.std.specs.Prelude.{◌≡◌, ◌<◌, ◌==◌, ◌/◌, ◌%◌, ◌∷◌, [], ℕ, List, Bool, Option, None, Some, length, map, get_or, option_map}
 use Rattle.std.specs.Int.{bit_at}
-use Rattle.std.specs.List.{list_any}
+use Rattle.std.specs.List.{IsDistinct, list_any}
+use Rattle.std.specs.Str.{bytes_eq}
 use Rattle.j39_memory.specs.ByGroup.{values_of}
 use Rattle.j39_frame.specs.Frame.{FrameRecord}
 use Rattle.j39_frame.specs.Groups.{IsHeardGroup, place_of_group}
@@ -13,7 +14,7 @@ use Rattle.j39_listen.specs.Heard.{Hearing}
 use Rattle.j39_listen.specs.Listening.{Hears}
 use Rattle.j39_survey.specs.GroupCounts.{ArePutTogether, Came, came_in, controllers_in, senders_in, silences_in, spread_of}
 use Rattle.j39_survey.specs.GroupCounts as counted
-use Rattle.j39_survey.specs.Interfaces.{InterfaceRecord, interfaces_of, last_behind, untold_in}
+use Rattle.j39_survey.specs.Interfaces.{InterfaceRecord, interfaces_of, last_behind, told_in, untold_in}
 use Rattle.j39_survey.specs.LogLines.{LogLine, Seen, UnreadRecord, has_log_line, others_in, seen_in, spelled_in, unread_in}
 use Rattle.j39_survey.specs.OtherLines.{OthersRecord, others_of}
 use Rattle.j39_survey.specs.SurveyText as rows
@@ -106,6 +107,12 @@ interface_record i = record {
 pub record HaveMet (interfaces : Interfaces) (seen : List Seen) : Type 0 where
   pub told_are : map interface_record interfaces.told.items ≡ interfaces_of seen
   pub untold_is : interfaces.untold ≡ capped (untold_in seen)
+  pub apart : IsDistinct bytes_eq (told_in seen)
+
+-- where the interfaces know the place of one, it is this one's
+abbrev pub IsPlaced : Interfaces → Option (List ℕ) → Type 0
+IsPlaced interfaces bus = (d : InterfaceCounts) → interfaces.place < length interfaces.told.items
+    → bus ≡ Some (get_or interfaces.told.items interfaces.place d).name.items
 
 -- ---- other lines and unread ones
 
@@ -163,6 +170,7 @@ pub record HasSurveyed (survey : Survey) (given : Option (List ℕ)) (lines : Li
   pub lines_are : survey.lines ≡ capped (length lines)
   pub interfaces_are : HaveMet survey.interfaces (seen_in lines)
   pub bus_is : survey.bus ≡ bus_of given (spelled_in lines)
+  pub placed : IsPlaced survey.interfaces survey.bus
   pub heard : List Hearing
   pub met : HasMet survey.traffic (frames_of given (spelled_in lines)) heard
   pub others_are : others_record survey.others ≡ others_of (others_in lines)

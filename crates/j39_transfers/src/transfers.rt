@@ -165,6 +165,7 @@ impl Transfers {
     pub fn move_to(&mut self, own: u8) -> bool
         ensures known { result ≡ can_move own (transfers_of self.old) }
         ensures moved { transfers_of self.new ≡ moves own (transfers_of self.old) }
+        ensures stays { result ≡ false → self.new ≡ self.old }
     {
         if !is_address(own) || !self.current.is_empty() {
             return false;

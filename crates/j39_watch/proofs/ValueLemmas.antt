@@ -1,8 +1,8 @@
 -- The last values of all origins, with one more.
-use Rattle.j39_watch.proofs.Common.{◌≡◌, ◌∷◌, ◌++◌, [], false, ℕ, List, Some, None, append-nil, append_assoc, map, refl, slice_get, slice_set, subst, sym, ap, ◌∙◌, list_any, map-append, filter_map-append, place_in, Origin, same_true, stands, SightingRecord, absent, told, told_by, told_in, ReadingRecord, ValueRecord, Entry, entry_of}
+use Rattle.j39_watch.proofs.Common.{◌≡◌, ◌∷◌, ◌++◌, [], false, ℕ, List, Some, None, map, refl, slice_get, slice_set, ap, ◌∙◌, list_any, place_in, Origin, same_true, stands, ValueRecord, Entry}
 use Rattle.j39_watch.proofs.LatestLemmas.{latest_more, latest_one}
 use Rattle.j39_reports.proofs.OriginRowLemmas as rows
-use Rattle.j39_watch.specs.LatestSoFar.{AreLatest, Behind, HasFollowed, LatestRow, latest_begun, latest_grown, latest_over, latest_row}
+use Rattle.j39_watch.specs.LatestSoFar.{AreLatest, HasFollowed, LatestRow, latest_begun, latest_grown, latest_over, latest_row}
 use Rattle.j39_reports.specs.RowModels.{entry_at}
 use Rattle.j39_reports.specs.Summary.{firsts, have_one_origin}
 use Rattle.j39_watch.specs.declared.latest.Latest.{Latest}
@@ -38,21 +38,3 @@ pub is_new : (k : Origin) (stamp : ℕ) (value : ValueRecord) (pairs : List (Ori
 is_new k stamp value pairs before nowhere are =
     rows.is_new key latest_begun latest_grown latest_over (λ f es. refl) latest_one latest_more latest_row (λ p. refl)
     (entry_at k stamp value) pairs before nowhere are
-
--- ---- a message, with one reading more, or one parameter that is not available
-
-module _ (message : Behind) (before : List SightingRecord) where
-  abbrev entries : List SightingRecord → List Entry
-  entries sightings = message.before ++ map (entry_of message.hearing) (told_in sightings)
-
-  pub values_take : (pairs : List (Origin × Latest)) (r : ReadingRecord) (e : Entry) → e ≡ entry_of message.hearing r
-      → AreLatest pairs (entries before ++ e ∷ []) → AreLatest pairs (entries (before ++ told r ∷ []))
-  values_take pairs r e is are =
-      let more = ap (map (entry_of message.hearing)) (filter_map-append told_by before (told r ∷ [])) ∙ map-append (entry_of message.hearing) (told_in before) (r ∷ []) in
-      subst (AreLatest pairs) (append_assoc message.before (map (entry_of message.hearing) (told_in before)) (e ∷ [])
-      ∙ ap (λ x. message.before ++ (map (entry_of message.hearing) (told_in before) ++ x ∷ [])) is ∙ ap (λ es. message.before ++ es) (sym more)) are
-
-  pub values_keep : (pairs : List (Origin × Latest)) (spn : ℕ) → AreLatest pairs (entries before) → AreLatest pairs (entries (before ++ absent spn ∷ []))
-  values_keep pairs spn are =
-      let same = filter_map-append told_by before (absent spn ∷ []) ∙ append-nil (told_in before) in
-      subst (λ xs. AreLatest pairs (message.before ++ map (entry_of message.hearing) xs)) (sym same) are

@@ -9,7 +9,7 @@ ghost use Rattle.j39_web.specs.Text.{AsksSomewhere};
 ghost use Rattle.j39_web.specs.Writings.{asks, makes};
 ghost use Rattle.j39_web.specs.declared.texts.Refusal.TheVariants.{Memory, TooSmall};
 
-use crate::texts::{self, LogText, Refusal};
+use crate::texts::{self, BusLog, LogText, Refusal};
 use crate::writing::Writing;
 use j39_groups::Groups;
 use j39_log::Bus;
@@ -31,25 +31,35 @@ pub(crate) const WRONG_BUS: u32 = 3;
 /// The bytes of a table say none.
 const WRONG_TABLE: u32 = 4;
 
+/// The bytes that a call is given: a log, the name of its bus, and a table.
+#[derive(Clone, Copy)]
+pub(crate) struct Given<'a> {
+    pub log: &'a [u8],
+    pub bus: &'a [u8],
+    pub table: &'a [u8],
+}
+
 /// Tells what is written of a log on the bus of this name, by the table that these bytes say.
 pub(crate) fn tell(
     alloc: Global,
     writing: Writing,
-    log: &[u8],
-    bus: &[u8],
-    table: &[u8],
+    given: Given<'_>,
     room: &mut [u8],
     text: &mut LogText,
 ) -> u32
-    ensures { Tells (ByTable table.now) (makes writing)
-        (λ rows. AsksSomewhere (asks writing rows) (given_bus bus.now) log.now)
-        log.now bus.now table.now room.old room.new text.old text.new result }
+    ensures { Tells (ByTable given.entry.table.now) (makes writing)
+        (λ rows. AsksSomewhere (asks writing rows) (given_bus given.entry.bus.now) given.entry.log.now)
+        given.entry.log.now given.entry.bus.now given.entry.table.now room.old room.new text.old text.new result }
 {
-    let Some(bus) = bus_named(bus) else {
+    let Some(bus) = bus_named(given.bus) else {
         return WRONG_BUS;
     };
-    match table_said(alloc, table) {
-        Ok(groups) => answer(texts::made(alloc, writing, log, bus, &groups, room), text),
+    let log = BusLog {
+        bytes: given.log,
+        bus,
+    };
+    match table_said(alloc, given.table) {
+        Ok(groups) => answer(texts::made(alloc, writing, log, &groups, room), text),
         Err(fault) => refused(fault),
     }
 }
@@ -58,22 +68,24 @@ pub(crate) fn tell(
 pub(crate) fn tell_values(
     alloc: Global,
     writing: Writing,
-    log: &[u8],
-    bus: &[u8],
-    table: &[u8],
+    given: Given<'_>,
     spns: &[u32],
     room: &mut [u8],
     text: &mut LogText,
 ) -> u32
-    ensures { Tells (ByRowsOf spns.now table.now) (makes writing) (λ _. ⊤)
-        log.now bus.now table.now room.old room.new text.old text.new result }
+    ensures { Tells (ByRowsOf spns.now given.entry.table.now) (makes writing) (λ _. ⊤)
+        given.entry.log.now given.entry.bus.now given.entry.table.now room.old room.new text.old text.new result }
 {
-    let Some(bus) = bus_named(bus) else {
+    let Some(bus) = bus_named(given.bus) else {
         return WRONG_BUS;
     };
-    match table_said(alloc, table) {
+    let log = BusLog {
+        bytes: given.log,
+        bus,
+    };
+    match table_said(alloc, given.table) {
         Ok(groups) => answer(
-            texts::values(alloc, writing, log, bus, &groups, spns, room),
+            texts::values(alloc, writing, log, &groups, spns, room),
             text,
         ),
         Err(fault) => refused(fault),

@@ -36,7 +36,7 @@ mod texts;
 mod writing;
 
 use answers::{
-    NO_MEMORY, WRONG_BUS, answer, bus_named, refused, table_said, tell, tell_values, why,
+    Given, NO_MEMORY, WRONG_BUS, answer, bus_named, refused, table_said, tell, tell_values, why,
 };
 use fields::NameFields;
 use j39_table::TableFault;
@@ -67,7 +67,13 @@ pub extern "C" fn j39_report(
     ensures published { result ≡ done → ByTable table.now
         (λ rows. IsPublished rows (given_bus bus.now) log.now text.new room.new) }
 {
-    tell(alloc, Writing::Report, log, bus, table, room, text)
+    tell(
+        alloc,
+        Writing::Report,
+        Given { log, bus, table },
+        room,
+        text,
+    )
 }
 
 /// Writes the report of some parameters (SPN) alone as comma-separated values: the names of the columns, and a record for
@@ -86,7 +92,8 @@ pub extern "C" fn j39_values(
     ensures { Tells (ByRowsOf spns.now table.now) MakesTable (λ _. ⊤)
         log.now bus.now table.now room.old room.new text.old text.new result }
 {
-    tell_values(alloc, Writing::Records, log, bus, table, spns, room, text)
+    let given = Given { log, bus, table };
+    tell_values(alloc, Writing::Records, given, spns, room, text)
 }
 
 /// Writes the readings of one parameter of one controller as numbers: a point of 24 bytes for each, in order. Of each
@@ -108,17 +115,8 @@ pub extern "C" fn j39_series(
     ensures { Tells (ByRowsOf (of.now.spn ∷ []) table.now) (MakesSeries of.now) (λ _. ⊤)
         log.now bus.now table.now room.old room.new text.old text.new result }
 {
-    let spns = [of.spn];
-    tell_values(
-        alloc,
-        Writing::Series(*of),
-        log,
-        bus,
-        table,
-        &spns,
-        room,
-        text,
-    )
+    let given = Given { log, bus, table };
+    tell_values(alloc, Writing::Series(*of), given, &[of.spn], room, text)
 }
 
 /// Writes what each parameter of a log did by a table, as comma-separated values: how many values there were, the least,
@@ -138,7 +136,13 @@ pub extern "C" fn j39_summary(
         (λ rows. AsksSomewhere (AsksForRows no_filter rows) (given_bus bus.now) log.now)
         log.now bus.now table.now room.old room.new text.old text.new result }
 {
-    tell(alloc, Writing::Summary, log, bus, table, room, text)
+    tell(
+        alloc,
+        Writing::Summary,
+        Given { log, bus, table },
+        room,
+        text,
+    )
 }
 
 /// Writes the fault codes in a log (DM1, DM2) into a room, as they become news: a line for each code, with the name that
@@ -158,7 +162,13 @@ pub extern "C" fn j39_faults(
         (λ _. AsksSomewhere (AsksForFaults News no_filter) (given_bus bus.now) log.now)
         log.now bus.now table.now room.old room.new text.old text.new result }
 {
-    tell(alloc, Writing::Faults, log, bus, table, room, text)
+    tell(
+        alloc,
+        Writing::Faults,
+        Given { log, bus, table },
+        room,
+        text,
+    )
 }
 
 /// Writes who holds which address at the end of a log into a room, a line for each address. The bus and the answers

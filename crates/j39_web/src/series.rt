@@ -23,27 +23,28 @@ use j39_listen::{Account, Counts, Heard, LineFault, Listener, Made, RunFault, ru
 use j39_log::Bus;
 use std::alloc::{AllocError, Global};
 
+/// The readings that are asked for, and the table by which.
+#[derive(Clone, Copy)]
+pub(crate) struct SeriesWanted<'a, 't> {
+    pub groups: &'a Groups<'t>,
+    pub of: SeriesOrigin,
+}
+
 /// Writes the readings of one parameter of one controller in a log of at most `limit` bytes, a point for each. Without a
 /// bus it is that of the first frame in the log.
 pub(crate) fn series<R: Source, W: Sink>(
     alloc: Global,
-    groups: &Groups<'_>,
-    of: SeriesOrigin,
+    wanted: SeriesWanted<'_, '_>,
     source: &mut R,
     sink: &mut W,
     bus: Option<Bus>,
     limit: u64,
 ) -> Result<Counts, RunFault>
-    ensures { Ran (MakesSeries of groups.now) AsksForBoxes bus limit result
+    ensures { Ran (MakesSeries wanted.entry.of wanted.entry.groups.now) AsksForBoxes bus limit result
         (turn R.remaining R.has_failed source.old source.new) (turn W.written W.has_failed sink.old sink.new) }
 {
-    run_over(
-        SeriesAccount::new(alloc, groups, of),
-        source,
-        sink,
-        bus,
-        limit,
-    )
+    let account = SeriesAccount::new(alloc, wanted.groups, wanted.of);
+    run_over(account, source, sink, bus, limit)
 }
 
 /// What is heard so far, and the numbers of the report by these rows.

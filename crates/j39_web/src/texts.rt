@@ -14,7 +14,7 @@ ghost use Rattle.j39_web.specs.Writings.{asks, makes};
 ghost use Rattle.j39_web.specs.declared.texts.Refusal.TheVariants.{Memory, TooSmall};
 
 use crate::room::{LogBytes, Room};
-use crate::writing::Writing;
+use crate::writing::{Writing, Written};
 use j39_groups::Groups;
 use j39_io::{DeviceFault, put_all};
 use j39_listen::{Clock, Counts, Format, RunFault};
@@ -50,29 +50,36 @@ pub struct LogText {
     pub bytes: u64,
 }
 
-/// Writes what is made of a log by a table. Without a bus it is that of the first frame in the log.
+/// A log, and its bus; without one it is that of the first frame in the log.
+#[derive(Drop)]
+pub struct BusLog<'a> {
+    pub bytes: &'a [u8],
+    pub bus: Option<Bus>,
+}
+
+/// Writes what is made of a log by a table.
 pub fn made(
     alloc: Global,
     writing: Writing,
-    log: &[u8],
-    bus: Option<Bus>,
+    log: BusLog<'_>,
     groups: &Groups<'_>,
     room: &mut [u8],
 ) -> Result<LogText, Refusal>
     // What stands at the front of the room is that, and nothing else.
-    ensures made { IfOk result (λ text. IsMade (makes writing groups.now) bus log.now text room.new) }
+    ensures made { IfOk result (λ text. IsMade (makes writing groups.now) log.entry.bus log.entry.bytes.now text room.new) }
 
     // The room is too small exactly where that has as many bytes, or more.
     ensures fits { IfOk result (λ text. text.bytes < length room.new) }
-    ensures too_small { result ≡ Err TooSmall → Overflows (makes writing groups.now) bus log.now room.new }
+    ensures too_small { result ≡ Err TooSmall → Overflows (makes writing groups.now) log.entry.bus log.entry.bytes.now room.new }
 
     // Memory is wanted only at a frame of the log that asks for some.
-    ensures memory { result ≡ Err Memory → AsksSomewhere (asks writing groups.now) bus log.now }
+    ensures memory { result ≡ Err Memory → AsksSomewhere (asks writing groups.now) log.entry.bus log.entry.bytes.now }
 {
-    let mut source = LogBytes::new(log);
+    let mut source = LogBytes::new(log.bytes);
     let mut sink = Room::new(room);
-    let limit = log.len() as u64;
-    let ran = writing.run(alloc, groups, &mut source, &mut sink, bus, limit);
+    let limit = log.bytes.len() as u64;
+    let written = Written { writing, groups };
+    let ran = written.run(alloc, &mut source, &mut sink, log.bus, limit);
     told(ran, &sink)
 }
 
@@ -80,20 +87,19 @@ pub fn made(
 pub fn values(
     alloc: Global,
     writing: Writing,
-    log: &[u8],
-    bus: Option<Bus>,
+    log: BusLog<'_>,
     groups: &Groups<'_>,
     spns: &[u32],
     room: &mut [u8],
 ) -> Result<LogText, Refusal>
     ensures values { IfOk result (λ text. ByRows spns.now groups.now
-        (λ rows. IsMade (makes writing rows) bus log.now text room.new)) }
+        (λ rows. IsMade (makes writing rows) log.entry.bus log.entry.bytes.now text room.new)) }
     ensures fits { IfOk result (λ text. text.bytes < length room.new) }
     ensures too_small { result ≡ Err TooSmall → ByRows spns.now groups.now
-        (λ rows. Overflows (makes writing rows) bus log.now room.new) }
+        (λ rows. Overflows (makes writing rows) log.entry.bus log.entry.bytes.now room.new) }
 {
     match groups.restricted_to(alloc, spns) {
-        Ok(rows) => made(alloc, writing, log, bus, &rows, room),
+        Ok(rows) => made(alloc, writing, log, &rows, room),
         Err(AllocError) => Err(Refusal::Memory),
     }
 }

@@ -7,7 +7,7 @@ ghost use Rattle.j39_fault_reports.specs.declared.fault_news.telling.Telling.The
 ghost use Rattle.j39_web.specs.Writings.{asks, makes};
 
 use crate::points::SeriesOrigin;
-use crate::series::series;
+use crate::series::{SeriesWanted, series};
 use j39_fault_reports::{Choice, FaultCounts, FaultsWanted, Telling, faults};
 use j39_groups::Groups;
 use j39_io::{Sink, Source};
@@ -32,23 +32,30 @@ pub(crate) enum Writing {
     Series(SeriesOrigin),
 }
 
-impl Writing {
+/// What is written, and the table by which.
+#[derive(Clone, Copy)]
+pub(crate) struct Written<'a, 't> {
+    pub writing: Writing,
+    pub groups: &'a Groups<'t>,
+}
+
+impl<'a, 't> Written<'a, 't> {
     /// Writes it of a log of at most `limit` bytes. Without a bus it is that of the first frame in the log.
     pub(crate) fn run<R: Source, W: Sink>(
         self,
         alloc: Global,
-        groups: &Groups<'_>,
         source: &mut R,
         sink: &mut W,
         bus: Option<Bus>,
         limit: u64,
     ) -> Result<Counts, RunFault>
-        ensures { Ran (makes self groups.now) (asks self groups.now) bus limit result
+        ensures { Ran (makes self.entry.writing self.entry.groups.now) (asks self.entry.writing self.entry.groups.now) bus limit result
             (turn R.remaining R.has_failed source.old source.new) (turn W.written W.has_failed sink.old sink.new) }
     {
+        let Written { writing, groups } = self;
         let filter = None;
         let wanted = Wanted { groups, filter };
-        match self {
+        match writing {
             Writing::Report => run_with(alloc, groups, source, sink, bus, limit),
             Writing::Records => report_csv(alloc, wanted, source, sink, bus, limit),
             Writing::Summary => {
@@ -68,7 +75,10 @@ impl Writing {
                 let told = FaultsWanted { writing, choice };
                 counts_of(faults(alloc, told, source, sink, bus, limit))
             }
-            Writing::Series(of) => series(alloc, groups, of, source, sink, bus, limit),
+            Writing::Series(of) => {
+                let wanted = SeriesWanted { groups, of };
+                series(alloc, wanted, source, sink, bus, limit)
+            }
         }
     }
 }

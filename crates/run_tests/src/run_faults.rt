@@ -258,8 +258,10 @@ fn faults_of_writer_and_reader(rt: HostRuntime) -> Result<(), Fail> {
     assert!(rt; report_ends(alloc, stuck, 1, TEXT, b"j1939: write failed\n")?);
 
     // Where the counts can't be told, the report is whole all the same.
-    let (log, err) = (log_in(alloc, 4096)?, room_for(alloc, 0)?);
-    let untold = (log, room_for(alloc, 300)?, err);
-    assert!(rt; report_ends(alloc, untold, 0, TEXT, b"")?);
+    for (log, text) in &[(&LOG[..TWO_LINES], &TEXT[..TEXT_OF_TWO]), (LOG, TEXT)] {
+        let (log, err) = (source_of(alloc, log, 4096)?, room_for(alloc, 0)?);
+        let untold = (log, room_for(alloc, 300)?, err);
+        assert!(rt; report_ends(alloc, untold, 0, text, b"")?);
+    }
     Ok(())
 }

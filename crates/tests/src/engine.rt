@@ -27,6 +27,7 @@ fn setup<'a>(name: Name, served: &'a [Pgn], subscribed: &'a [Pgn]) -> Setup<'a> 
         subscribed: Some(subscribed),
         broadcasts: 0,
         sessions: 1,
+        transfers: 1,
         window: 16,
     }
 }

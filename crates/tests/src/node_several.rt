@@ -1,8 +1,9 @@
-//! Messages in packets to a controller from several sources at once: as many as it has boxes, so many packets granted at once.
+//! Messages in packets to a controller from several sources at once, and from it to several destinations: as many as it has boxes, so
+//! many packets granted at once.
 use crate::setup::setup;
 use crate::steps::made;
 use j39_frame::{Frame, Id, Pgn, Stamp};
-use j39_node::{Controller, Setup};
+use j39_node::{Controller, Refused, Setup, TransferEnding};
 use std::alloc::Global;
 use std::test::Fail;
 
@@ -139,5 +140,82 @@ fn node_grants_at_most_its_window_and_what_is_asked(rt: HostRuntime) -> Result<(
     for (window, most) in WINDOWS {
         assert_eq!(rt; granted_in(rt.alloc(), *window, *most)?, (1, 1));
     }
+    Ok(())
+}
+
+/// A frame of a session from this source to address 128, of group 65226 if it is one of control.
+fn says(node: &mut Controller, source: u8, bytes: &[u8; 8], now: Stamp) -> Option<()> {
+    let frame = of_session(source, CONTROL, bytes)?;
+    node.hear(&frame, now);
+    Some(())
+}
+
+/// The destination of the frame that goes next, and its first byte.
+fn goes_to(node: &mut Controller, now: Stamp) -> Option<(u8, u8)> {
+    let frame = node.take_frame(now)?;
+    let first = frame.bytes.as_slice().get(0)?;
+    Some((frame.id.destination()?, *first))
+}
+
+/// How many of so many transfers at once are done, each frame of which goes in its turn: a request to send to each, and, as each
+/// clears all, the packets, one to each and again.
+fn done_in_turn(node: &mut Controller, count: u8, now: Stamp) -> Option<u64> {
+    let group = Pgn::new(65_226)?;
+    for to in 0..count {
+        node.transfer(now, group, to, &[to; 18]).ok()?;
+    }
+    for to in 0..count {
+        if goes_to(node, now)? != (to, 16) {
+            return Some(0);
+        }
+    }
+    for to in 0..count {
+        says(node, to, &[17, 3, 1, 255, 255, 0xCA, 0xFE, 0], now)?;
+    }
+    for number in 1..4u8 {
+        for to in 0..count {
+            if goes_to(node, now)? != (to, number) {
+                return Some(0);
+            }
+        }
+    }
+    for to in 0..count {
+        says(node, to, &[19, 18, 0, 3, 255, 0xCA, 0xFE, 0], now)?;
+    }
+    let mut done = 0u64;
+    for _ in 0..count {
+        if node.take_transfer_ended()?.1 == TransferEnding::Done {
+            done = done.saturating_add(1);
+        }
+    }
+    Some(done)
+}
+
+#[test]
+fn node_sends_to_as_many_at_once_as_it_has_boxes(rt: HostRuntime) -> Result<(), Fail> {
+    let wanted = Setup {
+        transfers: 16,
+        ..setup(2, 128, &[])
+    };
+    let mut node = made(rt.alloc(), &wanted)?;
+    let _claim = node.take_frame(Stamp::new(0).ok_or("moment")?);
+    let now = Stamp::new(1_000_000).ok_or("moment")?;
+    assert_eq!(rt; done_in_turn(&mut node, 16, now), Some(16));
+
+    // One that is absent delays no other: its request to send goes, and then all go to the other.
+    let group = Pgn::new(65_226).ok_or("group")?;
+    assert_eq!(rt; node.transfer(now, group, 200, &[1; 18]), Ok(16));
+    assert_eq!(rt;
+        node.transfer(now, group, 200, &[1; 18]),
+        Err(Refused::Full)
+    );
+    assert_eq!(rt; node.transfer(now, group, 100, &[1; 18]), Ok(17));
+    assert_eq!(rt; goes_to(&mut node, now), Some((200, 16)));
+    assert_eq!(rt; goes_to(&mut node, now), Some((100, 16)));
+    says(&mut node, 100, &[17, 3, 1, 255, 255, 0xCA, 0xFE, 0], now).ok_or("frame")?;
+    for number in 1..4u8 {
+        assert_eq!(rt; goes_to(&mut node, now), Some((100, number)));
+    }
+    assert!(rt; goes_to(&mut node, now).is_none());
     Ok(())
 }

@@ -2,7 +2,7 @@
 use crate::steps::{Step, controller, wrong_step};
 use Step::{Broadcasts, EndsTransfer, Gives, Hears, HearsOften, IsDue, Moves, Transfers};
 use TransferEnding::{Done, Failed, Gone, Withdrawn};
-use j39_frame::{Frame, Pgn, Stamp};
+use j39_frame::{Frame, Id, Pgn, Stamp};
 use j39_node::{Controller, Refused, TransferEnding};
 use j39_transport::{Receiver, Reply};
 use std::alloc::Global;
@@ -28,7 +28,7 @@ static BEGINS: &[Step] = &[
     ),
     Transfers(250_000, 11, &[0; 1_786], Err(Refused::BadValue)),
     Transfers(250_000, 11, &MESSAGE, Ok(0)),
-    Transfers(250_000, 12, &MESSAGE, Err(Refused::Full)),
+    Transfers(250_000, 11, &MESSAGE, Err(Refused::Full)),
     IsDue(Some(250_000)),
     Gives(
         250_000,
@@ -206,6 +206,68 @@ static MOVED: &[Step] = &[
     Transfers(5_500_001, 11, &MESSAGE, Ok(0)),
 ];
 
+/// Two are busy: neither rests, so a third is sent to at once, and each of them again. Who is busy behind a clear to send has a
+/// session, and rests.
+static BUSY: &[Step] = &[
+    Hears("(1.000000) can0 1CEC800B#FF01FFFFFFCAFE00"),
+    EndsTransfer(Some((0, Failed(1)))),
+    Transfers(1_000_000, 12, &MESSAGE, Ok(1)),
+    Gives(
+        1_000_000,
+        Some("(0000000001.000000) can0 1CEC0C80#10120003FFCAFE00"),
+    ),
+    Hears("(1.000001) can0 1CEC800C#FF01FFFFFFCAFE00"),
+    EndsTransfer(Some((1, Failed(1)))),
+    Transfers(1_000_001, 13, &MESSAGE, Ok(2)),
+    Gives(
+        1_000_001,
+        Some("(0000000001.000001) can0 1CEC0D80#10120003FFCAFE00"),
+    ),
+    Hears("(1.000002) can0 1CEC800D#110301FFFFCAFE00"),
+    Hears("(1.000002) can0 1CEC800D#FF01FFFFFFCAFE00"),
+    EndsTransfer(Some((2, Failed(1)))),
+    Transfers(1_000_002, 13, &MESSAGE, Err(Refused::Full)),
+    Transfers(1_000_002, 12, &MESSAGE, Ok(3)),
+];
+
+/// Two don't answer, and rest, each for its own four seconds; others are sent to meanwhile.
+static TWO_REST: &[Step] = &[
+    Gives(
+        1_500_001,
+        Some("(0000000001.500001) can0 1CEC0B80#FF03FFFFFFCAFE00"),
+    ),
+    EndsTransfer(Some((0, Failed(3)))),
+    Transfers(1_500_001, 12, &MESSAGE, Ok(1)),
+    Gives(
+        1_500_001,
+        Some("(0000000001.500001) can0 1CEC0C80#10120003FFCAFE00"),
+    ),
+    Gives(
+        2_750_002,
+        Some("(0000000002.750002) can0 1CEC0C80#FF03FFFFFFCAFE00"),
+    ),
+    EndsTransfer(Some((1, Failed(3)))),
+    Transfers(2_750_002, 11, &MESSAGE, Err(Refused::Full)),
+    Transfers(2_750_002, 12, &MESSAGE, Err(Refused::Full)),
+    Transfers(2_750_002, 13, &MESSAGE, Ok(2)),
+    Gives(
+        2_750_002,
+        Some("(0000000002.750002) can0 1CEC0D80#10120003FFCAFE00"),
+    ),
+    Hears("(2.750003) can0 1CEC800D#FF02FFFFFFCAFE00"),
+    EndsTransfer(Some((2, Failed(2)))),
+    Transfers(5_500_000, 11, &MESSAGE, Err(Refused::Full)),
+    Transfers(5_500_001, 11, &MESSAGE, Ok(3)),
+    Gives(
+        5_500_001,
+        Some("(0000000005.500001) can0 1CEC0B80#10120003FFCAFE00"),
+    ),
+    Hears("(5.500002) can0 1CEC800B#FF01FFFFFFCAFE00"),
+    EndsTransfer(Some((3, Failed(1)))),
+    Transfers(6_750_001, 12, &MESSAGE, Err(Refused::Full)),
+    Transfers(6_750_002, 12, &MESSAGE, Ok(4)),
+];
+
 /// The place of the first wrong step, after an address is held and a request to send was sent.
 fn wrong_after(alloc: Global, steps: &[Step]) -> Result<Option<usize>, Fail> {
     let mut node = controller(alloc, &[])?;
@@ -218,10 +280,40 @@ fn wrong_after(alloc: Global, steps: &[Step]) -> Result<Option<usize>, Fail> {
 #[test]
 fn transfers_of_a_node(rt: HostRuntime) -> Result<(), Fail> {
     for steps in [
-        WINDOWS, ANSWERS, ABORTED, ABSENT, HOLDS, REPLACED, LOST, MOVED,
+        WINDOWS, ANSWERS, ABORTED, ABSENT, HOLDS, REPLACED, LOST, MOVED, BUSY, TWO_REST,
     ] {
         assert_eq!(rt; wrong_after(rt.alloc(), steps)?, None);
     }
+    Ok(())
+}
+
+/// Whether a transfer to this address begins at this moment, and is broken off by its destination, for another reason than that it
+/// is busy.
+fn breaks_off(node: &mut Controller, now: Stamp, to: u8) -> Option<bool> {
+    let group = Pgn::new(65_226)?;
+    if node.transfer(now, group, to, &MESSAGE).is_err() {
+        return Some(false);
+    }
+    let request = node.take_frame(now)?;
+    let id = Id::compose(7, Pgn::new(60_416)?, request.id.source(), to)?;
+    let abort = [0xFF, 250, 0xFF, 0xFF, 0xFF, 0xCA, 0xFE, 0];
+    node.hear(&Frame::new(now, id, &abort)?, now);
+    Some(node.take_transfer_ended()?.1 == Failed(250))
+}
+
+#[test]
+fn sixteen_rest(rt: HostRuntime) -> Result<(), Fail> {
+    let mut node = controller(rt.alloc(), &[])?;
+    let _claim = node.take_frame(Stamp::new(0).ok_or("moment")?);
+    for place in 0..16u8 {
+        let now = Stamp::new(250_000 + u64::from(place)).ok_or("moment")?;
+        assert_eq!(rt; breaks_off(&mut node, now, place), Some(true));
+    }
+    let early = Stamp::new(4_249_999).ok_or("moment")?;
+    assert_eq!(rt; breaks_off(&mut node, early, 16), Some(false));
+    let late = Stamp::new(4_250_000).ok_or("moment")?;
+    assert_eq!(rt; breaks_off(&mut node, late, 1), Some(false));
+    assert_eq!(rt; breaks_off(&mut node, late, 16), Some(true));
     Ok(())
 }
 

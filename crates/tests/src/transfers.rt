@@ -277,6 +277,25 @@ static RECEIVERS: &[(&str, &[ReceiverStep], bool)] = &[
         true,
     ),
     (
+        "limit_of_two_packets",
+        &[
+            Receives(
+                CONTROL,
+                [0x10, 0x12, 0, 3, 2, 0xEC, 0xFE, 0],
+                Some((BACK, [0x11, 2, 1, 0xFF, 0xFF, 0xEC, 0xFE, 0])),
+                0,
+            ),
+            Receives(DATA, P1, None, 0),
+            Receives(
+                DATA,
+                P2,
+                Some((BACK, [0x11, 1, 3, 0xFF, 0xFF, 0xEC, 0xFE, 0])),
+                0,
+            ),
+        ],
+        true,
+    ),
+    (
         "abort_of_another_group",
         &[
             Receives(CONTROL, RTS, Some((BACK, CTS)), 0),

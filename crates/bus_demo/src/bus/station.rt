@@ -1,7 +1,7 @@
 //! A controller, and the numbers that the book has for what it was handed.
 ghost use Rattle.std.specs.Prelude.{◌≡◌, ◌↔◌, ◌++◌, ℕ, [], Bool, IfOk, IfSome, IsSome, IsTrue, List, OnOk, Option, false, length, slice_get, true};
 ghost use Rattle.std.specs.Option.{is_some, option_map};
-ghost use Rattle.j39_node.specs.declared.kinds.TransferEnding.{TransferEnding};
+ghost use Rattle.j39_transfers.specs.declared.kinds.Ending.{Ending as TransferEnding};
 ghost use Rattle.j39_frame.specs.Address.{IsAddress};
 ghost use Rattle.j39_frame.specs.Stamp.{stamp_micros};
 ghost use Rattle.j39_address.specs.Name.{name_raw};
@@ -49,6 +49,9 @@ const BROADCASTS: u8 = 8;
 /// How many messages in packets it receives at once.
 const SESSIONS: u8 = 4;
 
+/// How many messages in packets it sends to others' addresses at once.
+const TRANSFERS: u8 = 1;
+
 /// How many packets it lets a sender send at once.
 const WINDOW: u8 = 16;
 
@@ -67,7 +70,7 @@ impl Station {
     pub fn new(alloc: Global, name: Name, address: u8) -> Result<Option<Station>, AllocError>
         ensures known { IfOk result (λ found. IsSome found ↔ IsAddress address) }
         ensures fresh { IfOk result (λ found. IfSome found (λ station. Is (record
-            { name = name_raw name; address = address; delay = 0; served = []; subscribed = None; boxes = 8; sessions = 4; window = 16; brought = nothing }) [] station.controller)) }
+            { name = name_raw name; address = address; delay = 0; served = []; subscribed = None; boxes = 8; sessions = 4; transfers = 1; window = 16; brought = nothing }) [] station.controller)) }
     {
         let setup = Setup {
             name,
@@ -77,6 +80,7 @@ impl Station {
             subscribed: None,
             broadcasts: BROADCASTS,
             sessions: SESSIONS,
+            transfers: TRANSFERS,
             window: WINDOW,
         };
         let Some(controller) = Controller::new(alloc, &setup)? else {

@@ -23,8 +23,10 @@ pub struct FrameLine<'a> {
 }
 
 impl<'a> FrameLine<'a> {
-    ghost use Rattle.std.specs.Prelude.{IfSome};
+    ghost use Rattle.std.specs.Prelude.{◌≡◌, IfSome};
+    ghost use Rattle.j39_frame.specs.Frame.{FrameRecord};
     ghost use Rattle.j39_log.specs.FrameLine.{BeginsStamp, IsFrameOf};
+    ghost use Rattle.j39_log.specs.StampTexts.{text_micros};
 
     /// The line's frame.
     #[inline(always)]
@@ -36,10 +38,11 @@ impl<'a> FrameLine<'a> {
         Some(Frame::from_parts(stamp, self.id, bytes))
     }
 
-    /// Its stamp with its text, which stands in the line.
+    /// The stamp of its frame with its text, which stands in the line.
     #[inline(always)]
     pub fn stamp_text(&self) -> StampText
         requires { BeginsStamp self.now }
+        ensures stamp { (frame : FrameRecord) → IsFrameOf self.now frame → text_micros result ≡ frame.stamp }
     {
         let mut text = [b')'; 19];
         let _ = bytes_before(&mut text, 18, *self.front);

@@ -11,9 +11,9 @@ ghost use Rattle.j39_node.specs.Is.{asking_of, Is, request_by};
 
 use crate::controller::Controller;
 use crate::lane::Open;
-use crate::outgoing::{Outgoing, latest, past, place_of, renew};
+use crate::outgoing::{Outgoing, can_transfer, latest, past, place_of, renew};
 use crate::requests::Due;
-use crate::{Answer, Refused, Request, asking, transfers};
+use crate::{Answer, Refused, Request, asking};
 use j39_frame::{Pgn, Stamp};
 
 impl Controller {
@@ -106,9 +106,10 @@ impl Controller {
     }
 
     /// Hands in a message of 9 to 1,785 bytes, to another's address: a request to send, and the packets that it clears; answers its
-    /// token, 0, 1, 2 and so on, apart from those of `send` and `broadcast`. `Full` while one is accepted and not told to have ended,
-    /// and while it rests: for 4 seconds after the end of one of this group to this address was told, which wasn't acknowledged, so that
-    /// nothing late of it is taken for this one's. Where one of another pair so ended in these 4 seconds, all rest till 4 seconds after it.
+    /// token, 0, 1, 2 and so on, apart from those of `send` and `broadcast`. `Full` while one to this address, or in each box one, is
+    /// accepted and not told to have ended; and while it rests: for 4 seconds after the end of one of this group to this address, which
+    /// wasn't acknowledged, so that nothing late of it is taken for this one's. None rests of which nothing was sent, or whose request to
+    /// send was refused. `Full` too while twice as many others as boxes rest or may yet.
     pub fn transfer(&mut self, now: Stamp, group: Pgn, to: u8, bytes: &[u8]) -> Result<u64, Refused>
         ensures { (w : Who) (H : List Call) → Is w H self.old
             → Is w (At (stamp_micros now) (Transfer (pgn_raw group) to bytes.now result) ∷ H) self.new }
@@ -117,19 +118,12 @@ impl Controller {
         if !self.hold.is_held() {
             return Err(Refused::NoAddress);
         }
-        match transfers::Open::new(self.transfers.next_token, &self.own, group, to, bytes) {
-            Some(transfer) => {
-                if self.transfers.refuses(self.hold.rest, group, to) {
-                    return Err(Refused::Full);
-                }
-                let token = self.transfers.next_token;
-                self.transfers.current = Some(transfer);
-                self.transfers.next_token += 1;
-                self.hold = self.hold.renewed();
-                Ok(token)
-            }
-            None => Err(Refused::BadValue),
+        if !can_transfer(&self.own, group, to, bytes) {
+            return Err(Refused::BadValue);
         }
+        let name = self.holders.holder(to);
+        let clock = self.hold.clock();
+        self.transfers.begin(group, to, bytes, name, clock)
     }
 
     /// Asks an address, or all (255), for a group, also for claims, by a message of priority 6; answers its token, one of those

@@ -5,7 +5,8 @@ ghost use Rattle.j39_frame.specs.Stamp.{stamp_micros};
 ghost use Rattle.j39_node.specs.History.{Who, Call, is_left};
 ghost use Rattle.j39_node.specs.Reception.{replies_of};
 ghost use Rattle.j39_node.specs.Ticks.{next_tick};
-ghost use Rattle.j39_node.specs.Transfers.{clock, next_due, packet_in, packets_in, sooner, transfer_in};
+ghost use Rattle.j39_node.specs.Transfers.{clock, next_due, packet_in, packets_in, sooner};
+ghost use Rattle.j39_transfers.specs.Transfers.{soonest};
 ghost use Rattle.j39_node.specs.Hold.{can_claim, stands};
 ghost use Rattle.j39_node.specs.Asking.{is_coming, out_at};
 ghost use Rattle.j39_node.specs.Is.{asking_of, Is, lane_of, port_of, hearing_of, incoming_of, waits_with};
@@ -68,14 +69,14 @@ impl Controller {
     fn packets_in(&self) -> Option<u64>
         ensures { (w : Who) → result
             ≡ sooner (packet_in (is_left (lane_of w self.now.lane).current self.now.lane.count) self.now.hold.pause)
-            (transfer_in (port_of self.now.transfers).current (clock self.now.hold.age)) }
+            (soonest (clock self.now.hold.age) (port_of self.now.transfers).state.running) }
     {
         let packet = if self.lane.is_left() {
             Some(u64::from(self.hold.pause.saturating_sub(SLACK)))
         } else {
             None
         };
-        sooner(packet, self.transfers.sends_in(self.hold.clock()))
+        sooner(packet, self.transfers.all.due_in(self.hold.clock()))
     }
 
     /// A message, an acknowledgment or a reply waits.

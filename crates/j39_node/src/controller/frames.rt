@@ -6,7 +6,8 @@ ghost use Rattle.j39_frame.specs.Address.{null_address};
 ghost use Rattle.j39_frame.specs.Stamp.{stamp_micros};
 ghost use Rattle.j39_node.specs.History.{Who, Call, is_left, nothing, content};
 ghost use Rattle.j39_node.specs.Reception.{replies_of};
-ghost use Rattle.j39_node.specs.Transfers.{clock, transfer_by};
+ghost use Rattle.j39_node.specs.Transfers.{carried_by, clock};
+ghost use Rattle.j39_transfers.specs.Transfers.{said};
 ghost use Rattle.j39_node.specs.Hold.{lost, stands};
 ghost use Rattle.j39_node.specs.History.Call.{At};
 ghost use Rattle.j39_node.specs.History.Act.{TakeFrame};
@@ -53,6 +54,8 @@ impl Controller {
             let claim = self.own.claim(address, now)?;
             self.incoming.note(&mut self.holders, &claim);
             self.incoming.call(Some(address), now);
+            let clock = hold.clock();
+            self.transfers.all.leave(None, &self.holders, clock);
             let breaks = self.hearing.leave(None, &self.holders, self.incoming.clock);
             self.news = self.news.with_missed(breaks);
             return Some(claim);
@@ -97,7 +100,7 @@ impl Controller {
             Turn::Move => {
                 let clock = hold.clock();
                 let frame = self.transfers.frame(clock, now)?;
-                self.transfers.taken(clock);
+                self.transfers.all.drop_frame(clock);
                 self.hold = hold.went();
                 Some(frame)
             }
@@ -125,7 +128,7 @@ impl Controller {
             (turn_frame (turn_of hold.yields (ready_in self.now hold)) (slice_get (replies_of (incoming_of self.now.incoming).reception) 0)
             (option_map posted (slice_get self.now.outgoing.items self.now.taken))
             (packet_by (lane_of (who_of nothing self.now.own) self.now.lane).current self.now.lane.count hold.pause)
-            (transfer_by (port_of self.now.transfers).current (clock hold.age))) }
+            (option_map carried_by (said (clock hold.age) (port_of self.now.transfers).state))) }
     {
         match self.turn(hold, now)? {
             Turn::Reply => self.incoming.frame(now),
@@ -167,9 +170,9 @@ impl Controller {
         }
     }
 
-    /// A frame of the open transfer is due, and isn't the very frame that the first reply is.
+    /// A frame of a transfer is due, and isn't the very frame that the first reply is.
     fn sends_apart(&self, hold: Hold, now: Stamp) -> bool
-        ensures { result ≡ is_apart (transfer_by (port_of self.now.transfers).current (clock hold.age))
+        ensures { result ≡ is_apart (option_map carried_by (said (clock hold.age) (port_of self.now.transfers).state))
             (slice_get (replies_of (incoming_of self.now.incoming).reception) 0) }
     {
         let frame = self.transfers.frame(hold.clock(), now);

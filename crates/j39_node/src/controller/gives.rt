@@ -54,12 +54,7 @@ impl Controller {
     pub fn take_transfer_ended(&mut self) -> Option<(u64, TransferEnding)>
         ensures { (w : Who) (H : List Call) → Is w H self.old → Is w (TakeTransferEnded result ∷ H) self.new }
     {
-        let is_lost = self.hold.is_lost();
-        let ended = self.transfers.ended(is_lost)?;
-        let rests = ended.1.rests();
-        self.transfers.close(rests, self.hold.rest);
-        self.hold = self.hold.rested(rests);
-        Some(ended)
+        self.transfers.all.take_ended()
     }
 
     /// Tells a request that ended, each once, at the moment of the last call.

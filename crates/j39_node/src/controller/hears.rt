@@ -2,23 +2,19 @@
 ghost use Rattle.std.specs.Prelude.{true, ◌≡◌, ℕ, Option, List, ◌∷◌, ◌==◌, IfSome, Some, None, ◌<◌, false};
 ghost use Rattle.std.specs.Option.{option_map};
 ghost use Rattle.j39_frame.specs.Stamp.{stamp_micros};
-ghost use Rattle.j39_address.specs.Name.{name_raw};
-ghost use Rattle.j39_address.specs.Claims.{holder_in};
 ghost use Rattle.j39_node.specs.History.{Who, Call, is_left};
 ghost use Rattle.j39_node.specs.Hearing.{unheard};
-ghost use Rattle.j39_node.specs.Transfers.{is_replaced};
 ghost use Rattle.j39_node.specs.Hold.{lost};
 ghost use Rattle.j39_node.specs.History.Call.{At};
 ghost use Rattle.j39_node.specs.History.Act.{Hear, Tick, Again};
 ghost use Rattle.j39_node.specs.Asking.{is_coming};
-ghost use Rattle.j39_node.specs.Is.{asking_of, Is, silence, port_of, hearing_of, incoming_of};
+ghost use Rattle.j39_node.specs.Is.{asking_of, Is, silence, hearing_of, incoming_of};
 
 use crate::AskEnding;
 use crate::controller::Controller;
 use crate::heard::Heard;
 use crate::incoming::Bearing;
 use crate::requests::asked;
-use j39_address::Name;
 use j39_frame::{Frame, Stamp};
 
 impl Controller {
@@ -38,7 +34,6 @@ impl Controller {
         let request = asked(&self.own, is_held, heard, frame);
         let request = self.desk.fresh(&self.own, request);
         self.desk.hear(&self.own, request);
-        let before = self.peer();
         let doubled = self.own.double(heard);
         let bearing = Bearing {
             heard,
@@ -47,7 +42,6 @@ impl Controller {
             is_held,
         };
         let received = self.incoming.hear(&mut self.holders, bearing, frame, now);
-        let is_replaced = is_replaced(before, self.peer());
         let time = self.incoming.clock;
         let breaks = self.hearing.leave(received.gone, &self.holders, time);
         let broadcast = self.hearing.hear(&self.own, &self.holders, frame, time);
@@ -66,8 +60,9 @@ impl Controller {
         self.hold = self
             .hold
             .heard(bearing.drives_away, calls, another, self.own.delay());
+        let clock = self.hold.clock();
         self.transfers
-            .hear(self.hold.is_lost(), is_replaced, frame, self.hold.clock());
+            .hear(self.hold.is_lost(), &self.holders, frame, clock);
         let silence = self.silence(is_coming);
         self.asking.hear(&self.own, silence, frame, made);
     }
@@ -107,27 +102,5 @@ impl Controller {
     {
         self.asking
             .silence(self.hold.wait, is_coming, self.hold.is_lost())
-    }
-
-    /// The NAME that holds the address to which the open transfer goes.
-    fn peer(&self) -> Option<Name>
-        ensures { IfSome (port_of self.now.transfers).current (λ x.
-            option_map name_raw result ≡ holder_in self.now.holders x.sender.destination) }
-    {
-        match self.transfers.destination() {
-            Some(address) => self.holders.holder(address),
-            None => None,
-        }
-    }
-}
-
-/// Who held an address no longer does.
-fn is_replaced(before: Option<Name>, now: Option<Name>) -> bool
-    ensures { result ≡ is_replaced (option_map name_raw before) (option_map name_raw now) }
-{
-    match (before, now) {
-        (None, _) => false,
-        (Some(_), None) => true,
-        (Some(one), Some(other)) => other.raw() != one.raw(),
     }
 }

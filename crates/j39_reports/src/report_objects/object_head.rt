@@ -1,6 +1,6 @@
 //! What the objects of a message begin with, written backwards.
 ghost use Rattle.j39_rows.specs.Members.{address_string, name_string, or_null};
-ghost use Rattle.std.specs.Prelude.{◌≡◌, ◌+◌, ◌≤◌, ◌++◌, drop, false, length};
+ghost use Rattle.std.specs.Prelude.{◌≡◌, ◌+◌, ◌≤◌, ◌++◌, length};
 ghost use Rattle.std.specs.Option.{option_map};
 ghost use Rattle.j39_address.specs.Name.{name_raw};
 ghost use Rattle.j39_io.specs.Backwards.{WritesBefore};
@@ -9,73 +9,9 @@ ghost use Rattle.j39_reports.specs.EntryObject.{moment_members, sender_members};
 
 use crate::second::Second;
 use j39_address::Name;
-use j39_io::backwards::{byte_before, bytes_before, hex_before, tail_before};
+use j39_io::backwards::{byte_before, bytes_before, hex_before};
 use j39_io::vectors::hex_of_eight;
 use j39_listen::Heard;
-
-/// The bytes of a block that the objects of every message can begin with.
-pub(crate) const HEAD: usize = 192;
-
-/// Half of them.
-const HALF: usize = 96;
-
-/// What the objects of a message begin with: the bytes of a block from a place on.
-#[derive(Debug, Drop)]
-pub(crate) struct ObjectHead {
-    pub head: [u8; HEAD],
-    pub from: usize,
-    /// Whether the group stands there too.
-    pub has_group: bool,
-    pub ghost whole: { length head ≡ 192 },
-    pub ghost inside: { from ≤ 192 },
-}
-
-impl ObjectHead {
-    /// With nothing.
-    pub fn new() -> ObjectHead
-        ensures empty { result.from ≡ 192 }
-        ensures without_group { result.has_group ≡ false }
-    {
-        ObjectHead {
-            head: [0; HEAD],
-            from: HEAD,
-            has_group: false,
-        }
-    }
-
-    /// The bytes.
-    pub fn bytes(&self) -> &[u8]
-        ensures { result.now ≡ drop self.now.from self.now.head }
-    {
-        &self.head[self.from..]
-    }
-}
-
-/// Writes the bytes of a head, in two halves: a block of more than 128 bytes would be copied by a call.
-#[inline(always)]
-pub(crate) fn head_before(out: &mut [u8], end: usize, head: &ObjectHead) -> usize
-    requires room { 192 ≤ end }
-    requires within { end ≤ length out.old }
-    ensures { WritesBefore out.old out.new end result (drop head.now.from head.now.head) }
-{
-    if head.from > HALF {
-        return tail_before(out, end, &head.head, head.from);
-    }
-    let (front, back) = halves_of(&head.head);
-    let middle = bytes_before(out, end, *back);
-    tail_before(out, middle, front, head.from)
-}
-
-/// Both halves of a block.
-#[inline(always)]
-fn halves_of(block: &[u8; HEAD]) -> (&[u8; HALF], &[u8; HALF])
-    ensures whole { block.now ≡ result.0.now ++ result.1.now }
-    ensures front { length result.0.now ≡ 96 }
-{
-    let (front, later) = block.split_first_chunk::<HALF>().unwrap();
-    let back = later.as_array::<HALF>().unwrap();
-    (front, back)
-}
 
 /// Writes the moment, the address, the destination and the NAME.
 #[inline(always)]

@@ -10,18 +10,20 @@ ghost use Rattle.j39_groups.specs.Models.{value_of};
 ghost use Rattle.j39_groups.specs.Names.{group_name_in, name_in, state_in};
 ghost use Rattle.j39_listen.specs.HeardModel.{hearing_of};
 ghost use Rattle.j39_reports.specs.EntryObject.{group_member, opening_text, parameter_members, value_json, value_members};
+ghost use Rattle.j39_reports.specs.Forwards.{Gathers, waiting_text};
 ghost use Rattle.j39_reports.specs.MessageObjects.{opened};
 ghost use Rattle.j39_reports.specs.Json.{bytes_member, string_or_null};
 ghost use Rattle.j39_rows.specs.Json.{string_text};
 
+use crate::head::{HEAD, Head};
 use crate::json::put_string_or_null;
-use crate::report_objects::object_head::{HEAD, ObjectHead, heard_before};
+use crate::report_objects::object_head::heard_before;
 use crate::report_objects::object_sides::ObjectSides;
-use crate::report_objects::prepared_object::prepared_before;
-use crate::report_objects::quick_object::{OBJECT, object_before, unit_in};
-use crate::report_records::{digits_before, is_whole};
+use crate::report_objects::quick_object::object_before;
+use crate::report_records::digits_before;
 use crate::second::Second;
-use crate::sides::{KnownSides, Missed, note};
+use crate::sides::{KnownSides, Missed, note, unit_in};
+use crate::waiting::{BLOCK, Waiting};
 use arrayvec::ArrayVec;
 use j39_groups::{Groups, ReadingVisitor, Value, push_decimal};
 use j39_io::backwards::{bytes_before, tail_before};
@@ -34,12 +36,12 @@ use j39_rows::{put_bytes_under, put_string};
 #[derive(Drop)]
 pub(crate) struct Objects<'k, 'g, 't, 'b> {
     known: &'k KnownSides<'g, 't, ObjectSides>,
-    opening: &'b mut ObjectHead,
+    opening: &'b mut Head,
     group: Option<&'g [u8]>,
     pgn: u32,
     lines: u64,
     missed: Option<Missed<'t>>,
-    block: &'b mut [u8; OBJECT],
+    waiting: &'b mut Waiting,
 }
 
 impl<'k, 'g, 't, 'b> Objects<'k, 'g, 't, 'b> {
@@ -51,14 +53,16 @@ impl<'k, 'g, 't, 'b> Objects<'k, 'g, 't, 'b> {
         known: &'k KnownSides<'g, 't, ObjectSides>,
         heard: &Heard<'_>,
         second: &mut Second,
-        opening: &'b mut ObjectHead,
-        block: &'b mut [u8; OBJECT],
+        opening: &'b mut Head,
+        waiting: &'b mut Waiting,
     ) -> Objects<'k, 'g, 't, 'b>
         ensures opened { IsOpened known.entry.now.groups.now (hearing_of heard.now) result }
         ensures none { result.lines ≡ 0 }
+        ensures waiting { result.waiting.now.at ≡ 0 }
     {
         let pgn = heard.message.pgn;
         let group = open_with(opening, known, heard, second);
+        waiting.at = 0;
         Objects {
             known,
             opening,
@@ -66,7 +70,7 @@ impl<'k, 'g, 't, 'b> Objects<'k, 'g, 't, 'b> {
             pgn: pgn.raw(),
             lines: 0,
             missed: None,
-            block,
+            waiting,
         }
     }
 }
@@ -76,8 +80,8 @@ impl<'k, 'g, 't, 'b> Objects<'k, 'g, 't, 'b> {
 pub(crate) struct ObjectForm<'g, 't> {
     second: Second,
     known: KnownSides<'g, 't, ObjectSides>,
-    opening: ObjectHead,
-    block: [u8; OBJECT],
+    opening: Head,
+    waiting: Waiting,
 }
 
 impl<'g, 't> ObjectForm<'g, 't> {
@@ -89,8 +93,8 @@ impl<'g, 't> ObjectForm<'g, 't> {
         ObjectForm {
             second: Second::new(0),
             known: KnownSides::new(groups),
-            opening: ObjectHead::new(),
-            block: [0; OBJECT],
+            opening: Head::new(),
+            waiting: Waiting::new(),
         }
     }
 }
@@ -111,12 +115,13 @@ impl<'g, 't> EntryForm for ObjectForm<'g, 't> {
             heard,
             &mut self.second,
             &mut self.opening,
-            &mut self.block,
+            &mut self.waiting,
         );
         match groups.visit(heard.message.pgn, heard.message.payload, &mut objects, sink) {
             Ok(()) => {
                 let lines = objects.lines;
                 let missed = objects.missed;
+                objects.waiting.put(sink)?;
                 self.known.learn(heard.message.pgn, missed);
                 Ok(lines)
             }
@@ -145,7 +150,7 @@ impl<'k, 'g, 't, 'b, W: Sink> ReadingVisitor<'t, W> for Objects<'k, 'g, 't, 'b> 
     #[inline(always)]
     fn visit(&mut self, spn: u32, value: Value<'t, '_>, sink: &mut W) -> Result<(), DeviceFault> {
         let missed = put_entry(
-            self.block,
+            self.waiting,
             self.opening,
             self.group,
             self.known,
@@ -168,7 +173,7 @@ impl<'k, 'g, 't, 'b, W: Sink> ReadingVisitor<'t, W> for Objects<'k, 'g, 't, 'b> 
 /// What the objects of a message begin with, and what the group is called, where that is remembered; else it answers that.
 #[inline(always)]
 fn open_with<'g>(
-    opening: &mut ObjectHead,
+    opening: &mut Head,
     known: &KnownSides<'g, '_, ObjectSides>,
     heard: &Heard<'_>,
     second: &mut Second,
@@ -180,9 +185,8 @@ fn open_with<'g>(
     let Some(side) = known.of_group(heard.message.pgn.raw()) else {
         return open_unknown(opening, known.groups, heard, second);
     };
-    let group = tail_before(&mut opening.head, HEAD, &side.text, side.from);
-    opening.from = heard_before(&mut opening.head, group, heard, second);
-    is_whole(&opening.head);
+    let group = tail_before(&mut opening.block, HEAD, &side.text, side.from);
+    opening.from = heard_before(&mut opening.block, group, heard, second);
     opening.has_group = true;
     None
 }
@@ -190,7 +194,7 @@ fn open_with<'g>(
 /// The same of a group that isn't remembered, and answers what it is called.
 #[inline(never)]
 fn open_unknown<'r>(
-    opening: &mut ObjectHead,
+    opening: &mut Head,
     groups: &'r Groups<'_>,
     heard: &Heard<'_>,
     second: &mut Second,
@@ -199,19 +203,18 @@ fn open_unknown<'r>(
         heard.now.message.source heard.now.destination (option_map name_raw heard.now.name) (pgn_raw heard.now.message.pgn)
         ++ group_member (group_name_in groups.now (pgn_raw heard.now.message.pgn)) }
 {
-    let number = digits_before(&mut opening.head, HEAD, heard.message.pgn.raw());
-    let key = bytes_before(&mut opening.head, number, *b",\"pgn\":");
-    opening.from = heard_before(&mut opening.head, key, heard, second);
-    is_whole(&opening.head);
+    let number = digits_before(&mut opening.block, HEAD, heard.message.pgn.raw());
+    let key = bytes_before(&mut opening.block, number, *b",\"pgn\":");
+    opening.from = heard_before(&mut opening.block, key, heard, second);
     opening.has_group = false;
     groups.group_name(heard.message.pgn)
 }
 
-/// Writes the object of a reading, and answers what can be learned of its parameter. What stands in `block` afterwards is not known.
+/// Puts the object of a reading behind those that wait, or writes them and it, and answers what can be learned of its parameter.
 #[inline(always)]
 fn put_entry<'t, W: Sink>(
-    block: &mut [u8; OBJECT],
-    opening: &ObjectHead,
+    waiting: &mut Waiting,
+    opening: &Head,
     group: Option<&[u8]>,
     known: &KnownSides<'_, 't, ObjectSides>,
     pgn: u32,
@@ -219,29 +222,24 @@ fn put_entry<'t, W: Sink>(
     value: Value<'t, '_>,
     sink: &mut W,
 ) -> Result<Option<Missed<'t>>, DeviceFault>
-    ensures { Puts (opened opening.now (option_map (λ text. text.now) group.entry)
+    ensures { Gathers (waiting_text waiting.old) (opened opening.now (option_map (λ text. text.now) group.entry)
         ++ (parameter_members spn (name_in known.now.groups.now pgn spn)
         ++ value_members (value_of value.entry) (state_in known.now.groups.now pgn spn (value_of value.entry))))
-        result (turn W.written W.has_failed sink.old sink.new) }
+        (waiting_text waiting.new) result (turn W.written W.has_failed sink.old sink.new) }
 {
-    match prepared_before(block, opening, known, pgn, spn, value) {
-        Some(start) => {
-            put_all(sink, &block[start..])?;
-            Ok(None)
-        }
-        None => {
-            put_unknown(block, opening, group, known.groups, pgn, spn, value, sink)?;
-            let unit = value.unit();
-            Ok(known.missed(pgn, spn, unit))
-        }
+    if waiting.push(opening, known, pgn, spn, value) {
+        return Ok(None);
     }
+    put_unknown(waiting, opening, group, known.groups, pgn, spn, value, sink)?;
+    let unit = value.unit();
+    Ok(known.missed(pgn, spn, unit))
 }
 
-/// Writes the object of a reading whose sides aren't known.
+/// Writes the objects that wait, and that of a reading whose sides aren't known.
 #[inline(never)]
 fn put_unknown<W: Sink>(
-    block: &mut [u8; OBJECT],
-    opening: &ObjectHead,
+    waiting: &mut Waiting,
+    opening: &Head,
     group: Option<&[u8]>,
     groups: &Groups<'_>,
     pgn: u32,
@@ -249,20 +247,30 @@ fn put_unknown<W: Sink>(
     value: Value<'_, '_>,
     sink: &mut W,
 ) -> Result<(), DeviceFault>
-    ensures { Puts (opened opening.now (option_map (λ text. text.now) group.entry)
+    ensures { Gathers (waiting_text waiting.old) (opened opening.now (option_map (λ text. text.now) group.entry)
         ++ (parameter_members spn (name_in groups.now pgn spn)
         ++ value_members (value_of value.entry) (state_in groups.now pgn spn (value_of value.entry))))
-        result (turn W.written W.has_failed sink.old sink.new) }
+        (waiting_text waiting.new) result (turn W.written W.has_failed sink.old sink.new) }
 {
+    waiting.put(sink)?;
     let (parameter, state) = groups.called_in(pgn, spn, value);
-    put_object(block, opening, group, spn, parameter, value, state, sink)
+    put_object(
+        &mut waiting.block,
+        opening,
+        group,
+        spn,
+        parameter,
+        value,
+        state,
+        sink,
+    )
 }
 
 /// Writes the object of a reading, in one piece where it is short. What stands in `block` afterwards is not known.
 #[inline(always)]
 fn put_object<W: Sink>(
-    block: &mut [u8; OBJECT],
-    opening: &ObjectHead,
+    block: &mut [u8; BLOCK],
+    opening: &Head,
     group: Option<&[u8]>,
     spn: u32,
     parameter: Option<&[u8]>,
@@ -284,7 +292,7 @@ fn put_object<W: Sink>(
 /// Writes the object of a reading, part by part.
 #[inline(never)]
 fn put_parts<W: Sink>(
-    opening: &ObjectHead,
+    opening: &Head,
     group: Option<&[u8]>,
     spn: u32,
     parameter: Option<&[u8]>,
@@ -304,7 +312,7 @@ fn put_parts<W: Sink>(
 
 /// Writes what the objects of a message begin with, and the group.
 fn put_opened<W: Sink>(
-    opening: &ObjectHead,
+    opening: &Head,
     group: Option<&[u8]>,
     sink: &mut W,
 ) -> Result<(), DeviceFault>

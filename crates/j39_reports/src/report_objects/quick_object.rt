@@ -6,38 +6,36 @@ ghost use Rattle.j39_groups.specs.Models.{value_of};
 ghost use Rattle.j39_reports.specs.EntryObject.{parameter_members, unit_in, value_json, value_members};
 ghost use Rattle.j39_reports.specs.MessageObjects.{opened};
 
+use crate::head::Head;
 use crate::json::string_or_null_before;
-use crate::report_objects::object_head::{ObjectHead, head_before};
 use crate::report_records::{digits_before, scaled_before};
+use crate::sides::unit_in;
+use crate::waiting::BLOCK;
 use j39_groups::Value;
-use j39_io::backwards::bytes_before;
-
-/// The bytes of a block that an object fits in: what it begins with, a number, a value, three texts of 63 bytes in their marks,
-/// the keys, and the end of the line.
-pub(crate) const OBJECT: usize = 496;
+use j39_io::backwards::{bytes_before, slice_before};
 
 /// Writes the object of a reading at the end of a block, and answers where it starts. `None`, and nothing of use is written, for a
 /// text of the sender's, a number with more than fifteen places, and a text of the table that is long or doesn't stand as it is.
 #[inline(always)]
 pub(crate) fn object_before(
-    out: &mut [u8; OBJECT],
-    opening: &ObjectHead,
+    out: &mut [u8; BLOCK],
+    opening: &Head,
     spn: u32,
     parameter: Option<&[u8]>,
     value: Value<'_, '_>,
     state: Option<&[u8]>,
 ) -> Option<usize>
-    ensures written { (group : Option (List ℕ)) → IfSome result (λ start. WritesBefore out.old out.new 496 start
+    ensures written { (group : Option (List ℕ)) → IfSome result (λ start. WritesBefore out.old out.new 2048 start
         (opened opening.now group ++ (parameter_members spn (option_map (λ text. text.now) parameter.entry)
         ++ value_members (value_of value.entry) (option_map (λ text. text.now) state.entry)))) }
-    ensures within { IfSome result (λ start. start ≤ 496) }
+    ensures within { IfSome result (λ start. start ≤ 2048) }
 {
     if !opening.has_group {
         return None;
     }
-    let behind = value_before(out, OBJECT, value, state)?;
+    let behind = value_before(out, BLOCK, value, state)?;
     let number = parameter_before(out, behind, spn, parameter)?;
-    Some(head_before(out, number, opening))
+    Some(slice_before(out, number, opening.bytes()))
 }
 
 /// Writes the number of the parameter, and what it is called.
@@ -94,22 +92,6 @@ pub(crate) fn json_before(out: &mut [u8], end: usize, value: Value<'_, '_>) -> O
         Value::Error => Some(bytes_before(out, end, *b"\"error\"")),
         Value::Reserved => Some(bytes_before(out, end, *b"\"reserved\"")),
         Value::Indicator => Some(bytes_before(out, end, *b"\"indicator\"")),
-        Value::Text(_) => None,
-    }
-}
-
-/// The unit of a number.
-#[tactic(auto, unfolding(crate::specs::EntryObject::unit_in))]
-pub(crate) fn unit_in<'t>(value: Value<'t, '_>) -> Option<&'t [u8]>
-    ensures { option_map (λ unit. unit.now) result ≡ unit_in (value_of value.entry) }
-{
-    match value {
-        Value::Number(_, scale) => Some(scale.unit()),
-        Value::On => None,
-        Value::Off => None,
-        Value::Error => None,
-        Value::Reserved => None,
-        Value::Indicator => None,
         Value::Text(_) => None,
     }
 }

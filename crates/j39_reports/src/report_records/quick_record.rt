@@ -9,37 +9,35 @@ ghost use Rattle.j39_groups.specs.ValueText.{scaled_text, value_field};
 ghost use Rattle.j39_reports.specs.EntryText.{named_fields, value_fields};
 ghost use Rattle.j39_reports.specs.MessageRecords.{begun_fields};
 
-use crate::report_records::record_head::{RecordHead, digits_before};
+use crate::head::Head;
+use crate::report_records::record_head::digits_before;
+use crate::waiting::BLOCK;
 use j39_groups::{Value, magnitude_before};
-use j39_io::backwards::{byte_before, bytes_before, slice_before, tail_before};
+use j39_io::backwards::{byte_before, bytes_before, slice_before};
 use j39_io::{has_special, is_formula};
 use std::simd::prelude::*;
-
-/// The bytes of a block that a record fits in: what it begins with, a number, a value, three fields of 64 bytes with
-/// their commas, and the end of the line.
-pub(crate) const RECORD: usize = 352;
 
 /// Writes the record of a reading at the end of a block, and answers where it starts: what it begins with, and the fields
 /// behind that. `None`, and nothing of use is written, for a text of the sender's, a number with more than fifteen places, and
 /// a field that is long or must stand in quotes.
 #[inline(always)]
 pub(crate) fn record_before(
-    out: &mut [u8; RECORD],
-    begin: &RecordHead,
+    out: &mut [u8; BLOCK],
+    begin: &Head,
     spn: u32,
     parameter: &[u8],
     value: Value<'_, '_>,
     state: &[u8],
 ) -> Option<usize>
-    ensures written { (group : List ℕ) → IfSome result (λ start. WritesBefore out.old out.new 352 start
+    ensures written { (group : List ℕ) → IfSome result (λ start. WritesBefore out.old out.new 2048 start
         (named_fields (begun_fields begin.now group) spn parameter.now ++ value_fields (value_of value.entry) state.now)) }
-    ensures within { IfSome result (λ start. start ≤ 352) }
+    ensures within { IfSome result (λ start. start ≤ 2048) }
 {
     if !begin.has_group {
         return None;
     }
     let unit = value.unit();
-    let last = bytes_before(out, RECORD, *b"\r\n");
+    let last = bytes_before(out, BLOCK, *b"\r\n");
     let end = field_before(out, last, state)?;
     let behind = field_before(out, end, unit)?;
     let bare = bare_before(out, behind, value)?;
@@ -47,7 +45,7 @@ pub(crate) fn record_before(
     let name = field_before(out, gap, parameter)?;
     let number = digits_before(out, name, spn);
     let comma = byte_before(out, number, b',');
-    Some(tail_before(out, comma, &begin.head, begin.from))
+    Some(slice_before(out, comma, begin.bytes()))
 }
 
 /// Writes a comma and a field. `None`, and nothing of use is written, where it is long, must stand in quotes, or would be a

@@ -1,5 +1,5 @@
 //! What the records of a message begin with, written backwards.
-ghost use Rattle.std.specs.Prelude.{◌≡◌, ◌+◌, ◌≤◌, decimal, false, length};
+ghost use Rattle.std.specs.Prelude.{◌≡◌, ◌+◌, ◌≤◌, decimal, length};
 ghost use Rattle.std.specs.Option.{option_map};
 ghost use Rattle.j39_address.specs.Name.{name_raw};
 ghost use Rattle.j39_io.specs.Backwards.{WritesBefore};
@@ -9,49 +9,17 @@ ghost use Rattle.j39_listen.specs.Report.{name_field};
 ghost use Rattle.j39_reports.specs.Columns.{destination_field, heard_fields, sender_fields};
 ghost use Rattle.j39_reports.specs.EntryText.{begin_text};
 
+use crate::head::HEAD;
 use crate::second::Second;
 use j39_address::Name;
 use j39_io::backwards::{byte_before, bytes_before, hex_before, number_before};
 use j39_io::vectors::hex_of_eight;
 use j39_listen::Heard;
 
-/// The bytes of a block that the records of every message can begin with.
-pub(crate) const HEAD: usize = 96;
-
-/// What the records of a message begin with: the bytes of a block from a place on.
-#[derive(Debug, Drop)]
-pub(crate) struct RecordHead {
-    pub head: [u8; HEAD],
-    pub from: usize,
-    /// Whether what the group is called stands there too.
-    pub has_group: bool,
-    pub ghost whole: { length head ≡ 96 },
-    pub ghost inside: { from ≤ 96 },
-}
-
-impl RecordHead {
-    /// With nothing.
-    pub fn new() -> RecordHead
-        ensures empty { result.from ≡ 96 }
-        ensures without_group { result.has_group ≡ false }
-    {
-        RecordHead {
-            head: [0; HEAD],
-            from: HEAD,
-            has_group: false,
-        }
-    }
-}
-
-/// Says that a block has all its bytes.
-#[inline(always)]
-pub(crate) fn is_whole<const N: usize>(block: &[u8; N])
-    ensures { length block.now ≡ N }
-{}
-
 /// Writes the moment, the address, the destination, the NAME and the PGN at the end of a block.
-pub(crate) fn begin_before(out: &mut [u8; HEAD], heard: &Heard<'_>, second: &mut Second) -> usize
-    ensures { WritesBefore out.old out.new 96 result (begin_text (stamp_micros heard.now.message.stamp)
+pub(crate) fn begin_before(out: &mut [u8], heard: &Heard<'_>, second: &mut Second) -> usize
+    requires { 192 ≤ length out.old }
+    ensures { WritesBefore out.old out.new 192 result (begin_text (stamp_micros heard.now.message.stamp)
         heard.now.message.source heard.now.destination (option_map name_raw heard.now.name)
         (pgn_raw heard.now.message.pgn)) }
 {
@@ -63,13 +31,13 @@ pub(crate) fn begin_before(out: &mut [u8; HEAD], heard: &Heard<'_>, second: &mut
 /// Writes the moment, the address, the destination and the NAME.
 #[inline(always)]
 pub(crate) fn heard_before(
-    out: &mut [u8; HEAD],
+    out: &mut [u8],
     end: usize,
     heard: &Heard<'_>,
     second: &mut Second,
 ) -> usize
     requires room { 68 ≤ end }
-    requires within { end ≤ 96 }
+    requires within { end ≤ length out.old }
     ensures { WritesBefore out.old out.new end result (heard_fields (stamp_micros heard.now.message.stamp)
         heard.now.message.source heard.now.destination (option_map name_raw heard.now.name)) }
 {

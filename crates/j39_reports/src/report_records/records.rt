@@ -12,14 +12,16 @@ ghost use Rattle.j39_groups.specs.Models.{value_of};
 ghost use Rattle.j39_listen.specs.HeardModel.{hearing_of};
 ghost use Rattle.j39_reports.specs.Columns.{last_field};
 ghost use Rattle.j39_reports.specs.EntryText.{begin_text, group_called, named_fields, parameter_called, state_called, value_fields};
+ghost use Rattle.j39_reports.specs.Forwards.{Gathers, waiting_text};
 ghost use Rattle.j39_reports.specs.MessageRecords.{begun_fields};
 
-use crate::report_records::prepared_record::prepared_before;
-use crate::report_records::quick_record::{RECORD, record_before};
-use crate::report_records::record_head::{HEAD, RecordHead, begin_before, heard_before, is_whole};
+use crate::head::{HEAD, Head};
+use crate::report_records::quick_record::record_before;
+use crate::report_records::record_head::{begin_before, heard_before};
 use crate::report_records::record_sides::{RecordSides, or_nothing};
 use crate::second::Second;
 use crate::sides::{KnownSides, Missed, note};
+use crate::waiting::{BLOCK, Waiting};
 use arrayvec::ArrayVec;
 use j39_frame::Pgn;
 use j39_groups::{Groups, ReadingVisitor, Value, push_decimal};
@@ -31,12 +33,12 @@ use j39_listen::{EntryForm, Heard};
 #[derive(Drop)]
 pub(crate) struct Records<'k, 'g, 't, 'b> {
     known: &'k KnownSides<'g, 't, RecordSides>,
-    begin: &'b mut RecordHead,
+    begin: &'b mut Head,
     group: &'g [u8],
     pgn: u32,
     lines: u64,
     missed: Option<Missed<'t>>,
-    block: &'b mut [u8; RECORD],
+    waiting: &'b mut Waiting,
 }
 
 impl<'k, 'g, 't, 'b> Records<'k, 'g, 't, 'b> {
@@ -48,14 +50,16 @@ impl<'k, 'g, 't, 'b> Records<'k, 'g, 't, 'b> {
         known: &'k KnownSides<'g, 't, RecordSides>,
         heard: &Heard<'_>,
         second: &mut Second,
-        begin: &'b mut RecordHead,
-        block: &'b mut [u8; RECORD],
+        begin: &'b mut Head,
+        waiting: &'b mut Waiting,
     ) -> Records<'k, 'g, 't, 'b>
         ensures begun { IsBegun known.entry.now.groups.now (hearing_of heard.now) result }
         ensures none { result.lines ≡ 0 }
+        ensures waiting { result.waiting.now.at ≡ 0 }
     {
         let pgn = heard.message.pgn;
         let group = begin_with(begin, known, heard, second);
+        waiting.at = 0;
         Records {
             known,
             begin,
@@ -63,7 +67,7 @@ impl<'k, 'g, 't, 'b> Records<'k, 'g, 't, 'b> {
             pgn: pgn.raw(),
             lines: 0,
             missed: None,
-            block,
+            waiting,
         }
     }
 }
@@ -73,8 +77,8 @@ impl<'k, 'g, 't, 'b> Records<'k, 'g, 't, 'b> {
 pub(crate) struct RecordForm<'g, 't> {
     second: Second,
     known: KnownSides<'g, 't, RecordSides>,
-    begin: RecordHead,
-    block: [u8; RECORD],
+    begin: Head,
+    waiting: Waiting,
 }
 
 impl<'g, 't> RecordForm<'g, 't> {
@@ -86,8 +90,8 @@ impl<'g, 't> RecordForm<'g, 't> {
         RecordForm {
             second: Second::new(0),
             known: KnownSides::new(groups),
-            begin: RecordHead::new(),
-            block: [0; RECORD],
+            begin: Head::new(),
+            waiting: Waiting::new(),
         }
     }
 }
@@ -108,12 +112,13 @@ impl<'g, 't> EntryForm for RecordForm<'g, 't> {
             heard,
             &mut self.second,
             &mut self.begin,
-            &mut self.block,
+            &mut self.waiting,
         );
         match groups.visit(heard.message.pgn, heard.message.payload, &mut records, sink) {
             Ok(()) => {
                 let lines = records.lines;
                 let missed = records.missed;
+                records.waiting.put(sink)?;
                 self.known.learn(heard.message.pgn, missed);
                 Ok(lines)
             }
@@ -142,7 +147,14 @@ impl<'k, 'g, 't, 'b, W: Sink> ReadingVisitor<'t, W> for Records<'k, 'g, 't, 'b> 
     #[inline(always)]
     fn visit(&mut self, spn: u32, value: Value<'t, '_>, sink: &mut W) -> Result<(), DeviceFault> {
         let missed = put_entry(
-            self.block, self.begin, self.group, self.known, self.pgn, spn, value, sink,
+            self.waiting,
+            self.begin,
+            self.group,
+            self.known,
+            self.pgn,
+            spn,
+            value,
+            sink,
         )?;
         note(&mut self.missed, missed);
         self.lines = self.lines.saturating_add(1);
@@ -155,14 +167,11 @@ impl<'k, 'g, 't, 'b, W: Sink> ReadingVisitor<'t, W> for Records<'k, 'g, 't, 'b> 
     }
 }
 
-/// The least place that leaves room for what stands before the group.
-const ROOM: usize = 68;
-
 /// Writes what the records of a message begin with: the moment, the address, the NAME and the PGN, and what the group is called,
 /// where that is remembered; else it answers that.
 #[inline(always)]
 fn begin_with<'g>(
-    begin: &mut RecordHead,
+    begin: &mut Head,
     known: &KnownSides<'g, '_, RecordSides>,
     heard: &Heard<'_>,
     second: &mut Second,
@@ -174,13 +183,8 @@ fn begin_with<'g>(
     let Some(side) = known.of_group(heard.message.pgn.raw()) else {
         return begin_unknown(begin, known.groups, heard, second);
     };
-    if side.from < ROOM {
-        return begin_unknown(begin, known.groups, heard, second);
-    }
-    let group = tail_before(&mut begin.head, HEAD, &side.text, side.from);
-    is_whole(&begin.head);
-    begin.from = heard_before(&mut begin.head, group, heard, second);
-    is_whole(&begin.head);
+    let group = tail_before(&mut begin.block, HEAD, &side.text, side.from);
+    begin.from = heard_before(&mut begin.block, group, heard, second);
     begin.has_group = true;
     b""
 }
@@ -188,7 +192,7 @@ fn begin_with<'g>(
 /// The same of a group that isn't remembered, and answers what it is called.
 #[inline(never)]
 fn begin_unknown<'r>(
-    begin: &mut RecordHead,
+    begin: &mut Head,
     groups: &'r Groups<'_>,
     heard: &Heard<'_>,
     second: &mut Second,
@@ -197,17 +201,16 @@ fn begin_unknown<'r>(
         heard.now.destination (option_map name_raw heard.now.name) (pgn_raw heard.now.message.pgn)
         ++ later_text (group_called groups.now (pgn_raw heard.now.message.pgn)) }
 {
-    begin.from = begin_before(&mut begin.head, heard, second);
-    is_whole(&begin.head);
+    begin.from = begin_before(&mut begin.block, heard, second);
     begin.has_group = false;
     group_of(groups, heard.message.pgn)
 }
 
-/// Writes the record of a reading, and answers what can be learned of its parameter. What stands in `block` afterwards is not known.
+/// Puts the record of a reading behind those that wait, or writes them and it, and answers what can be learned of its parameter.
 #[inline(always)]
 fn put_entry<'t, W: Sink>(
-    block: &mut [u8; RECORD],
-    begin: &RecordHead,
+    waiting: &mut Waiting,
+    begin: &Head,
     group: &[u8],
     known: &KnownSides<'_, 't, RecordSides>,
     pgn: u32,
@@ -215,28 +218,24 @@ fn put_entry<'t, W: Sink>(
     value: Value<'t, '_>,
     sink: &mut W,
 ) -> Result<Option<Missed<'t>>, DeviceFault>
-    ensures { Puts (named_fields (begun_fields begin.now group.now) spn (parameter_called known.now.groups.now pgn spn)
+    ensures { Gathers (waiting_text waiting.old)
+        (named_fields (begun_fields begin.now group.now) spn (parameter_called known.now.groups.now pgn spn)
         ++ value_fields (value_of value.entry) (state_called known.now.groups.now pgn spn (value_of value.entry)))
-        result (turn W.written W.has_failed sink.old sink.new) }
+        (waiting_text waiting.new) result (turn W.written W.has_failed sink.old sink.new) }
 {
-    match prepared_before(block, begin, known, pgn, spn, value) {
-        Some(start) => {
-            put_all(sink, &block[start..])?;
-            Ok(None)
-        }
-        None => {
-            put_unknown(block, begin, group, known.groups, pgn, spn, value, sink)?;
-            let unit = value.unit();
-            Ok(known.missed(pgn, spn, unit))
-        }
+    if waiting.push(begin, known, pgn, spn, value) {
+        return Ok(None);
     }
+    put_unknown(waiting, begin, group, known.groups, pgn, spn, value, sink)?;
+    let unit = value.unit();
+    Ok(known.missed(pgn, spn, unit))
 }
 
-/// Writes the record of a reading whose sides aren't known.
+/// Writes the records that wait, and that of a reading whose sides aren't known.
 #[inline(never)]
 fn put_unknown<W: Sink>(
-    block: &mut [u8; RECORD],
-    begin: &RecordHead,
+    waiting: &mut Waiting,
+    begin: &Head,
     group: &[u8],
     groups: &Groups<'_>,
     pgn: u32,
@@ -244,19 +243,30 @@ fn put_unknown<W: Sink>(
     value: Value<'_, '_>,
     sink: &mut W,
 ) -> Result<(), DeviceFault>
-    ensures { Puts (named_fields (begun_fields begin.now group.now) spn (parameter_called groups.now pgn spn)
+    ensures { Gathers (waiting_text waiting.old)
+        (named_fields (begun_fields begin.now group.now) spn (parameter_called groups.now pgn spn)
         ++ value_fields (value_of value.entry) (state_called groups.now pgn spn (value_of value.entry)))
-        result (turn W.written W.has_failed sink.old sink.new) }
+        (waiting_text waiting.new) result (turn W.written W.has_failed sink.old sink.new) }
 {
+    waiting.put(sink)?;
     let Called { parameter, state } = called_in(groups, pgn, spn, value);
-    put_record(block, begin, group, spn, parameter, value, state, sink)
+    put_record(
+        &mut waiting.block,
+        begin,
+        group,
+        spn,
+        parameter,
+        value,
+        state,
+        sink,
+    )
 }
 
 /// Writes the record of a reading, in one piece where it is short. What stands in `block` afterwards is not known.
 #[inline(always)]
 fn put_record<W: Sink>(
-    block: &mut [u8; RECORD],
-    begin: &RecordHead,
+    block: &mut [u8; BLOCK],
+    begin: &Head,
     group: &[u8],
     spn: u32,
     parameter: &[u8],
@@ -276,7 +286,7 @@ fn put_record<W: Sink>(
 /// Writes the record of a reading, part by part.
 #[inline(never)]
 fn put_parts<W: Sink>(
-    begin: &RecordHead,
+    begin: &Head,
     group: &[u8],
     spn: u32,
     parameter: &[u8],
@@ -293,7 +303,7 @@ fn put_parts<W: Sink>(
 
 /// Writes the record of a reading, up to its value.
 fn put_named<W: Sink>(
-    begin: &RecordHead,
+    begin: &Head,
     group: &[u8],
     spn: u32,
     parameter: &[u8],
@@ -309,10 +319,10 @@ fn put_named<W: Sink>(
 }
 
 /// Writes what the records of a message begin with, and what the group is called.
-fn put_begun<W: Sink>(begin: &RecordHead, group: &[u8], sink: &mut W) -> Result<(), DeviceFault>
+fn put_begun<W: Sink>(begin: &Head, group: &[u8], sink: &mut W) -> Result<(), DeviceFault>
     ensures { Puts (begun_fields begin.now group.now) result (turn W.written W.has_failed sink.old sink.new) }
 {
-    let begun = &begin.head[begin.from..];
+    let begun = begin.bytes();
     if begin.has_group {
         return put_all(sink, begun);
     }

@@ -3,13 +3,15 @@ ghost use Rattle.std.specs.Prelude.{◌≡◌, [], ℕ, IfOk, Option, option_map
 ghost use Rattle.j39_transport.specs.Announced.{announced_by};
 ghost use Rattle.j39_frame.specs.Frame.{FrameRecord};
 ghost use Rattle.j39_frame.specs.Groups.{IsHeardGroup};
-ghost use Rattle.j39_frame.specs.Identifier.{pgn_of};
+ghost use Rattle.j39_frame.specs.Identifier.{id_raw, pgn_of};
+ghost use Rattle.j39_frame.specs.Stamp.{stamp_micros};
 ghost use Rattle.j39_frame.specs.Pgn.{pgn_raw};
 ghost use Rattle.j39_survey.specs.CameSoFar.{at_group, at_named, with_announced, with_own, with_whole};
 ghost use Rattle.j39_survey.specs.GroupCounts.{Came, group_named, nothing};
 
 use crate::surveys::arrivals::Arrivals;
-use j39_frame::{Frame, Pgn};
+use j39_frame::{Frame, Id, Pgn, Stamp};
+use j39_groups::is_network_group;
 use j39_memory::{ByGroup, GroupChange};
 use j39_transport::announced_group;
 use std::alloc::{AllocError, Global};
@@ -43,36 +45,40 @@ impl GroupCount {
     }
 }
 
-/// A frame of the group.
+/// A frame of the group, without its data, which aren't counted.
 #[derive(Clone, Copy)]
-struct OwnFrame<'f> {
-    frame: &'f Frame,
+struct OwnFrame {
+    id: Id,
+    stamp: Stamp,
 }
 
-impl<'f> GroupChange<GroupCount> for OwnFrame<'f> {
+impl GroupChange<GroupCount> for OwnFrame {
     ghost use Rattle.j39_survey.specs.SurveyModels.{HasCounted};
 
-    ghost changes = { λ own old new. (c : Came) → HasCounted old c → HasCounted new (with_own own.frame.now c) };
+    ghost changes = { λ own old new. (frame : FrameRecord) → frame.id ≡ id_raw own.id → frame.stamp ≡ stamp_micros own.stamp
+        → (c : Came) → HasCounted old c → HasCounted new (with_own frame c) };
 
     fn make(self, count: &mut GroupCount) {
-        count.arrivals.add(self.frame);
+        count.arrivals.add(self.id, self.stamp);
         count.frames = count.frames.saturating_add(1);
     }
 }
 
 /// A frame that announces a message of the group.
 #[derive(Clone, Copy)]
-struct Announcement<'f> {
-    frame: &'f Frame,
+struct Announcement {
+    id: Id,
+    stamp: Stamp,
 }
 
-impl<'f> GroupChange<GroupCount> for Announcement<'f> {
+impl GroupChange<GroupCount> for Announcement {
     ghost use Rattle.j39_survey.specs.SurveyModels.{HasCounted};
 
-    ghost changes = { λ it old new. (c : Came) → HasCounted old c → HasCounted new (with_announced it.frame.now c) };
+    ghost changes = { λ it old new. (frame : FrameRecord) → frame.id ≡ id_raw it.id → frame.stamp ≡ stamp_micros it.stamp
+        → (c : Came) → HasCounted old c → HasCounted new (with_announced frame c) };
 
     fn make(self, count: &mut GroupCount) {
-        count.arrivals.add(self.frame);
+        count.arrivals.add(self.id, self.stamp);
         count.announced = count.announced.saturating_add(1);
     }
 }
@@ -115,7 +121,8 @@ impl GroupTable {
             → HaveCounted self.new (at_group (pgn_of frame.now.id) (with_own frame.now) came) }
     {
         let at = frame.id.pgn().place();
-        self.counts.change(at, OwnFrame { frame });
+        let (id, stamp) = (frame.id, frame.stamp);
+        self.counts.change(at, OwnFrame { id, stamp });
     }
 
     /// The message that a frame announces, where it announces one.
@@ -125,11 +132,14 @@ impl GroupTable {
             → HaveCounted self.new (at_named (announced_by frame.now) (with_announced frame.now) came) }
     {
         // A frame of another group costs its identifier alone.
-        if !frame.id.is_transport_control() {
+        if !is_network_group(frame.id.pgn()) {
             return;
         }
         match announced_group(frame) {
-            Some(pgn) => self.change(pgn, Announcement { frame }),
+            Some(pgn) => {
+                let (id, stamp) = (frame.id, frame.stamp);
+                self.change(pgn, Announcement { id, stamp });
+            }
             None => {}
         }
     }

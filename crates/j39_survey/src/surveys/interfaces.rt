@@ -1,6 +1,6 @@
 //! The interfaces of the frames so far.
-ghost use Rattle.std.specs.Prelude.{◌≡◌, ◌∷◌, ◌++◌, ◌==◌, [], List, map, nat_lt, if◌then◌else◌};
-ghost use Rattle.std.specs.List.{list_any};
+ghost use Rattle.std.specs.Prelude.{◌≡◌, ◌<◌, ◌∷◌, ◌++◌, ◌==◌, [], ℕ, List, Option, Some, length, map, nat_lt, if◌then◌else◌};
+ghost use Rattle.std.specs.List.{list_any, position};
 ghost use Rattle.std.specs.Str.{bytes_eq};
 ghost use Rattle.j39_frame.specs.Stamp.{stamp_micros};
 ghost use Rattle.j39_log.specs.Bus.{IsBusName};
@@ -14,6 +14,9 @@ use j39_frame::Stamp;
 
 /// The most bytes of an interface's name.
 const NAME: usize = 15;
+
+/// The most interfaces that are told.
+const MOST: usize = 16;
 
 /// An interface: its frames so far, and their stamps.
 #[derive(Drop)]
@@ -76,29 +79,61 @@ fn falls(last: Stamp, stamp: Stamp) -> u64
 /// The first sixteen interfaces, and the frames of the others.
 #[derive(Drop)]
 pub(crate) struct Interfaces {
-    pub told: ArrayVec<InterfaceCounts, 16>,
+    pub told: ArrayVec<InterfaceCounts, MOST>,
     pub untold: u64,
+    /// Where the interface is told whose groups are counted; behind all where that isn't known.
+    pub place: usize,
 }
 
 impl Interfaces {
-    ghost use Rattle.j39_survey.specs.SurveyModels.{HaveMet};
+    ghost use Rattle.j39_survey.specs.SurveyModels.{HaveMet, IsPlaced};
 
     /// Of no frames.
     pub fn new() -> Interfaces
-        ensures { HaveMet result [] }
+        ensures met { HaveMet result [] }
+        ensures placed { (bus : Option (List ℕ)) → IsPlaced result bus }
     {
         Interfaces {
             told: ArrayVec::new(),
             untold: 0,
+            place: MOST,
         }
+    }
+
+    /// One frame more, of the interface of this name, whose groups are counted: no name is compared where its place is known.
+    #[inline(always)]
+    pub fn add_known(&mut self, name: &[u8], stamp: Stamp)
+        ensures met { (seen : List Seen) (s : Seen) → IsBusName name.now → s.bus ≡ name.now
+            → s.content.stamp ≡ stamp_micros stamp → IsPlaced self.old (Some name.now) → HaveMet self.old seen
+            → HaveMet self.new (seen ++ s ∷ []) }
+        ensures placed { IsPlaced self.old (Some name.now) → IsPlaced self.new (Some name.now) }
+    {
+        if self.place < self.told.len() {
+            self.told.as_mut_slice()[self.place].add(stamp);
+        } else {
+            self.place_and_add(name, stamp);
+        }
+    }
+
+    /// The same, where its place isn't known; afterwards it is, if it is told.
+    #[inline(never)]
+    fn place_and_add(&mut self, name: &[u8], stamp: Stamp)
+        ensures met { (seen : List Seen) (s : Seen) → IsBusName name.now → s.bus ≡ name.now
+            → s.content.stamp ≡ stamp_micros stamp → HaveMet self.old seen → HaveMet self.new (seen ++ s ∷ []) }
+        ensures placed { IsPlaced self.new (Some name.now) }
+    {
+        self.add(name, stamp);
+        self.place = place_of(self.told.as_slice(), name).unwrap_or(MOST);
     }
 
     /// One frame more, seen on the interface of this name.
     #[inline(always)]
     pub fn add(&mut self, name: &[u8], stamp: Stamp)
-        ensures { (seen : List Seen) (s : Seen) → IsBusName name.now → s.bus ≡ name.now
+        ensures met { (seen : List Seen) (s : Seen) → IsBusName name.now → s.bus ≡ name.now
             → s.content.stamp ≡ stamp_micros stamp → HaveMet self.old seen → HaveMet self.new (seen ++ s ∷ []) }
+        ensures placed { (bus : Option (List ℕ)) → IsPlaced self.new bus }
     {
+        self.place = MOST;
         if meet(self.told.as_mut_slice(), name, stamp) {
             return;
         }
@@ -126,6 +161,13 @@ fn named(name: &[u8]) -> InterfaceCounts
         last: start,
         back: 0,
     }
+}
+
+/// Where the interface of this name is told.
+fn place_of(told: &[InterfaceCounts], name: &[u8]) -> Option<usize>
+    ensures { result ≡ position (λ i. bytes_eq i.name.items name.now) told.now }
+{
+    told.iter().position(|i| i.name.as_slice() == name)
 }
 
 /// Adds a frame where one of these has this name, and says whether one has.

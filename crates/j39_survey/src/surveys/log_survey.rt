@@ -70,7 +70,7 @@ impl Survey {
             return Ok(());
         };
         self.lines = self.lines.saturating_add(1);
-        self.interfaces.add(bus.bytes(), frame.stamp);
+        self.interfaces.add_known(bus.bytes(), frame.stamp);
         self.has_log_line = true;
         self.traffic.add(frame)
     }

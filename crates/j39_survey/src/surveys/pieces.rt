@@ -1,12 +1,15 @@
 //! A log that is read in pieces, and the survey of its lines.
 ghost use Rattle.std.specs.Prelude.{◌≡◌, ◌≤◌, ◌<◌, ◌++◌, [], ℕ, List, Option, IfOk, OnErr, OnOk, length, take};
 ghost use Rattle.j39_listen.specs.Asking.{AsksAmong, AsksForBoxes};
+ghost use Rattle.j39_log.specs.FrameLine.{HasLine};
+ghost use Rattle.j39_log.specs.Splitter.{HasBegun};
 ghost use Rattle.j39_survey.specs.LogLines.{AreLogLines, LogLine};
 ghost use Rattle.j39_survey.specs.SurveyModels.{HasSurveyed};
 
 use crate::surveys::group_table::GroupTable;
 use crate::surveys::log_survey::Survey;
-use j39_log::{Bus, LastSecond, Splitter};
+use j39_groups::is_network_group;
+use j39_log::{Bus, FrameLine, LastSecond, Splitter};
 use std::alloc::{AllocError, Global};
 
 /// The lines of a log so far, and the beginning of one.
@@ -60,16 +63,64 @@ impl Pieces {
         ensures asked { OnErr result ((given : Option (List ℕ)) (taken : List ℕ) → HasTaken self.old given taken
             → AsksAmong AsksForBoxes given (taken ++ bytes.now)) }
     {
-        let quick = self
-            .splitter
-            .frame_on(bytes, &mut self.second, &self.survey.bus);
-        match quick {
-            Some((frame, n)) => match self.survey.add_frame(&frame) {
-                Ok(()) => Ok(n),
-                Err(AllocError) => Err(AllocError),
-            },
-            None => self.take_any(bytes),
+        let bus = &self.survey.bus;
+        let Some((line, n)) = self.splitter.line_on(bytes, &mut self.second, bus) else {
+            return self.take_any(bytes);
+        };
+        if is_network_group(line.id.pgn()) {
+            return self.take_network(&line, n, bytes);
         }
+        self.take_frame(&line, n, bytes)
+    }
+
+    /// The same, of a line of so many bytes that begins so.
+    #[inline(always)]
+    fn take_frame(
+        &mut self,
+        line: &FrameLine<'_>,
+        n: usize,
+        bytes: &[u8],
+    ) -> Result<usize, AllocError>
+        requires line { (begun : List ℕ) → HasBegun self.old.splitter begun
+            → HasLine self.old.splitter begun bytes.now self.old.survey.bus line.now n }
+        requires within { n ≤ length bytes.now }
+        requires some { 0 < n }
+        ensures count { IfOk result (λ n. n ≤ length bytes.now) }
+        ensures some { IfOk result (λ n. 0 < length bytes.now → 0 < n) }
+        ensures taken { IfOk result (λ n. (given : Option (List ℕ)) (taken : List ℕ) → HasTaken self.old given taken
+            → HasTaken self.new given (taken ++ take n bytes.now)) }
+        ensures asked { OnErr result ((given : Option (List ℕ)) (taken : List ℕ) → HasTaken self.old given taken
+            → AsksAmong AsksForBoxes given (taken ++ bytes.now)) }
+    {
+        let Some(frame) = line.frame() else {
+            return self.take_any(bytes);
+        };
+        match self.survey.add_frame(&frame) {
+            Ok(()) => Ok(n),
+            Err(AllocError) => Err(AllocError),
+        }
+    }
+
+    /// The same, of a frame whose data are read: apart, so that no others' are made of their digits.
+    #[inline(never)]
+    fn take_network(
+        &mut self,
+        line: &FrameLine<'_>,
+        n: usize,
+        bytes: &[u8],
+    ) -> Result<usize, AllocError>
+        requires line { (begun : List ℕ) → HasBegun self.old.splitter begun
+            → HasLine self.old.splitter begun bytes.now self.old.survey.bus line.now n }
+        requires within { n ≤ length bytes.now }
+        requires some { 0 < n }
+        ensures count { IfOk result (λ n. n ≤ length bytes.now) }
+        ensures some { IfOk result (λ n. 0 < length bytes.now → 0 < n) }
+        ensures taken { IfOk result (λ n. (given : Option (List ℕ)) (taken : List ℕ) → HasTaken self.old given taken
+            → HasTaken self.new given (taken ++ take n bytes.now)) }
+        ensures asked { OnErr result ((given : Option (List ℕ)) (taken : List ℕ) → HasTaken self.old given taken
+            → AsksAmong AsksForBoxes given (taken ++ bytes.now)) }
+    {
+        self.take_frame(line, n, bytes)
     }
 
     /// The same, of a line of any form.

@@ -23,7 +23,7 @@ each P a b (suc (suc i)) m e = absurd (cc)
 
 first_answered : AreAnswered first.who first.history
 unfolding receiving.recv_step session.takes_signal receiving.said_to frame.source_of signal.said_between frame.destination_of cutting.cut_frame cutting.announcement_of cutting.packet_of cutting.packet_data
-first_answered = (((((((((((((tt, refl), refl), refl), refl), tt), refl), refl), refl), refl), refl), refl), refl), refl)
+first_answered = ((((((((((((((omega arith, refl), refl), refl), refl), refl), tt), refl), refl), refl), refl), refl), refl), refl), refl)
 
 first_in_time : InTime 0 404000 first.history
 first_in_time = (omega arith, (omega arith, (omega arith, (omega arith, (omega arith, (omega arith, (omega arith, (omega arith, (omega arith, (omega arith, (omega arith, (omega arith, omega arith))))))))))))
@@ -33,7 +33,7 @@ first_comes = (omega arith, (omega arith, (omega arith, (omega arith, (omega ari
 
 second_answered : AreAnswered second.who second.history
 unfolding receiving.recv_step session.takes_signal receiving.said_to frame.source_of signal.said_between frame.destination_of frame.group_of frame.goes frame.names_message frame.is_announcement frame.is_packet
-second_answered = ((((((((tt, refl), tt), tt), refl), tt), tt), tt), refl)
+second_answered = (((((((((omega arith, refl), refl), tt), tt), refl), tt), tt), tt), refl)
 
 later : (f g : FrameRecord) → g.id ≡ f.id → g.bytes ≡ f.bytes → f.stamp ≤ g.stamp → g.stamp ≤ f.stamp + 1000 → IsLater 1000 f g
 later f g id bytes behind in_time = record { id = id; bytes = bytes; behind = behind; in_time = in_time }

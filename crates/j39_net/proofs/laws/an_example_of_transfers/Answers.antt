@@ -21,12 +21,12 @@ each P a b (suc zero) m e = subst (P 1) (let z : receiver ≡ m = cc in z) b
 each P a b (suc (suc i)) m e = absurd (cc)
 
 sender_answered : AreAnswered sender.who sender.history
-unfolding sending.new_sender sending.send_step sending.ticks_in sending.sends_packet sending.hears sending.cleared sending.acknowledged receiving.recv_step receiving.said_to session.takes_signal signal.said_between signal.said_by signal.control_in frame.group_of frame.source_of frame.destination_of cutting.packet_data
-sender_answered = ((((((((tt, refl), refl), refl), tt), refl), refl), tt), refl)
+unfolding sending.new_sender sending.send_step sending.ticks_in sending.sends_packet sending.hears sending.cleared sending.acknowledged receiving.recv_step receiving.said_to session.takes_signal signal.said_between signal.said_by signal.control_in frame.group_of frame.source_of frame.destination_of cutting.packet_data signal.written signal.packet_in sending.aborted
+sender_answered = (((((((((omega arith, refl), refl), refl), refl), tt), refl), refl), tt), refl)
 
 receiver_answered : AreAnswered receiver.who receiver.history
 unfolding receiving.recv_step receiving.said_to session.takes_signal session.takes_request session.begun session.grants session.granted_at session.takes_data session.takes_packet session.goes_on session.delivers_message signal.said_between signal.said_by signal.control_in signal.request_in signal.packet_in signal.written frame.source_of frame.destination_of frame.group_of frame.names_message key.key_between
-receiver_answered = ((((((tt, refl), tt), refl), tt), tt), refl)
+receiver_answered = (((((((omega arith, refl), refl), tt), refl), tt), tt), refl)
 
 later : (f g : FrameRecord) → g.id ≡ f.id → g.bytes ≡ f.bytes → f.stamp ≤ g.stamp → g.stamp ≤ f.stamp + 1000 → IsLater 1000 f g
 later f g id bytes behind in_time = record { id = id; bytes = bytes; behind = behind; in_time = in_time }

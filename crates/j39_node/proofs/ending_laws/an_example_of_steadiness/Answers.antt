@@ -23,6 +23,6 @@ returns-clause-steady c =
 
 pub returns-clause-not_told : goal.returns-clause-not_told
 returns-clause-not_told c =
-    let t : NoneTold tells_transfer busy = (refl, (refl, (refl, (refl, (refl, (refl, (refl, (refl, (refl, (refl, tt)))))))))) in
+    let t : NoneTold (tells_transfer 0) busy = (refl, (refl, (refl, (refl, (refl, (refl, (refl, (refl, (refl, (refl, tt)))))))))) in
     let b : NoneTold tells_broadcast (busy ++ transfer_accepted) = (refl, (refl, (refl, (refl, (refl, (refl, (refl, (refl, (refl, (refl, (refl, tt))))))))))) in
-    (idle_tells tells_transfer 610000 334 busy (λ m. refl) t, idle_tells tells_broadcast 610000 334 (busy ++ transfer_accepted) (λ m. refl) b)
+    (idle_tells (tells_transfer 0) 610000 334 busy (λ m. refl) t, idle_tells tells_broadcast 610000 334 (busy ++ transfer_accepted) (λ m. refl) b)

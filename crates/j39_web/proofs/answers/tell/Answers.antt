@@ -12,12 +12,12 @@ returns-in-Ok c = record {
   overflows = λ small. (
     c.in-Ok.groups,
     c.in-Ok.ensures.table,
-    subst (λ bus. Overflows (makes c.args.writing c.in-Ok.groups) bus c.args.log.now c.made.new.room) c.in-Some.ensures.value (c.made.ensures.too_small (c.answer.ensures.too_small small)),
+    subst (λ bus. Overflows (makes c.args.writing c.in-Ok.groups) bus c.args.given.log.now c.made.new.room) c.in-Some.ensures.value (c.made.ensures.too_small (c.answer.ensures.too_small small)),
   );
   memory = λ refused. inr (
     c.in-Ok.groups,
     c.in-Ok.ensures.table,
-    subst (λ bus. AsksSomewhere (asks c.args.writing c.in-Ok.groups) bus c.args.log.now) c.in-Some.ensures.value (c.made.ensures.memory (c.answer.ensures.memory refused)),
+    subst (λ bus. AsksSomewhere (asks c.args.writing c.in-Ok.groups) bus c.args.given.log.now) c.in-Some.ensures.value (c.made.ensures.memory (c.answer.ensures.memory refused)),
   );
   bus = search rules;
   table = search rules;
@@ -32,7 +32,7 @@ returns-in-Err c = record {
   made = search rules;
   fits = search rules;
   overflows = search rules;
-  memory = λ no. inl (subst (λ fault. IsFaultOf c.args.table.now fault) (c.refused.ensures.memory no) c.in-Err.ensures.wrong);
+  memory = λ no. inl (subst (λ fault. IsFaultOf c.args.given.table.now fault) (c.refused.ensures.memory no) c.in-Err.ensures.wrong);
   bus = search rules;
   table = λ wrong. (c.in-Err.fault, (c.in-Err.ensures.some, c.refused.ensures.wrong wrong, c.in-Err.ensures.wrong));
   answers = search rules;

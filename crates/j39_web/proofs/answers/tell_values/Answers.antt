@@ -11,7 +11,7 @@ returns-in-Ok c = record {
   fits = search rules;
   overflows = λ small.
       let (rows, same, over) = c.values.ensures.too_small (c.answer.ensures.too_small small) in
-      let over_given = subst (λ bus. Overflows (makes c.args.writing rows) bus c.args.log.now c.values.new.room) c.in-Some.ensures.value over in
+      let over_given = subst (λ bus. Overflows (makes c.args.writing rows) bus c.args.given.log.now c.values.new.room) c.in-Some.ensures.value over in
       (c.in-Ok.groups, c.in-Ok.ensures.table, (rows, same, over_given));
   memory = search rules;
   bus = search rules;
@@ -27,7 +27,7 @@ returns-in-Err c = record {
   made = search rules;
   fits = search rules;
   overflows = search rules;
-  memory = λ no. inl (subst (λ fault. IsFaultOf c.args.table.now fault) (c.refused.ensures.memory no) c.in-Err.ensures.wrong);
+  memory = λ no. inl (subst (λ fault. IsFaultOf c.args.given.table.now fault) (c.refused.ensures.memory no) c.in-Err.ensures.wrong);
   bus = search rules;
   table = λ wrong. (c.in-Err.fault, (c.in-Err.ensures.some, c.refused.ensures.wrong wrong, c.in-Err.ensures.wrong));
   answers = search rules;

@@ -4,12 +4,13 @@ use Rattle.j39_node.proofs.HearingLemmas.{either_news, heard_on, made_sender}
 use Rattle.j39_node.specs.Boxes.{in_box}
 use Rattle.j39_node.specs.Hearing.{broadcast_senders, found, made_whole, of, sender_in, with_sender}
 use Rattle.j39_node.proofs.AskLemmas.{ask_heard}
-use Rattle.j39_node.proofs.ReceptionLemmas.{again_is, table_is}
-use Rattle.j39_node.proofs.Common.{[], if◌then◌else◌, ◌&&◌, ◌++◌, ◌||◌, ◌∙◌, ◌∷◌, ap, asking_of, AskRecord, Bool, claim_of, fresh, heard, hearing_of, hears_if, hears_with, incoming_of, is_coming, is_lost, Knows, length, lost, map, name_raw, nat_lt, not, Option, option_map, option_or, port_of, refusal_by, request_by, stamp_micros, subst, Untold, View, who_of, with_refusal, ℕ, At, Hear, Hold, IfSome, IncomingRecord, MessageRecord, Running, Who, acknowledged, address_after, age, asked, called, calls_for_claim, claimed_again, clock_at, comes, counted, delayed, double, drop, due, ended, is_any, over_by, got, handed, heard_at, hold_after, holder, holder_in, holds, incoming_after, is_another, is_double, is_for_program, is_refusal_due, is_replaced, is_smaller, is_unheard_in, made_in, source_of, kept, later, made, made_of, min, missed, missed_news, nat_eq, news_after, offered, older, open_ask, open_transfer, owes_claim, patience, port_after, reached, received_by, requests, restarts, resting_by, silence, stamped, standing_of, step, sym, time_heard, told_claims, unheard_by, unheard_news, wait, whole, with_request, ◌*◌, ◌+◌, ◌-◌, ◌≡◌, sender_by, FrameRecord, waned}
+use Rattle.j39_node.proofs.ReceptionLemmas.{again_is, holders_are, table_is}
+use Rattle.j39_node.proofs.Common.{[], if◌then◌else◌, ◌&&◌, ◌++◌, ◌||◌, ◌∙◌, ◌∷◌, ap, asking_of, AskRecord, Bool, claim_of, fresh, heard, hearing_of, hears_with, incoming_of, is_coming, is_lost, Knows, length, lost, map, name_raw, nat_lt, not, Option, option_map, option_or, port_of, refusal_by, request_by, stamp_micros, subst, Untold, View, who_of, with_refusal, ℕ, At, Hear, Hold, IncomingRecord, MessageRecord, Who, acknowledged, address_after, age, asked, called, calls_for_claim, claimed_again, clock_at, comes, counted, delayed, double, drop, due, ended, is_any, over_by, got, handed, heard_at, hold_after, holder, holder_in, holds, incoming_after, is_another, is_double, is_for_program, is_refusal_due, is_smaller, is_unheard_in, made_in, source_of, kept, later, made, made_of, min, missed, missed_news, nat_eq, news_after, offered, older, open_ask, owes_claim, patience, reached, received_by, requests, restarts, silence, stamped, standing_of, step, sym, time_heard, told_claims, unheard_by, unheard_news, wait, whole, with_request, ◌*◌, ◌+◌, ◌-◌, ◌≡◌, sender_by, FrameRecord, waned, transfers_at, None}
 use Rattle.j39_node.specs.Is.{hearing_it}
 use Rattle.std.specs.Option.{is_some}
-use Rattle.j39_node.proofs.PortLemmas.{peers_are, clock_is, is_port, ported, replaced_is}
-use Rattle.j39_node.proofs.CallLemmas.{passed_is, news_heard, coming_is, heard_standing, holds_is, incoming_heard, made_heard, kept_rest, senders_rest, lost_is, missed_rest, refusal_rest, request_rest}
+use Rattle.j39_node.proofs.PortLemmas.{clock_is}
+use Rattle.j39_transfers.specs.Transfers.{hears as transfers_hear, leaves as transfers_leave, loses as transfers_lose}
+use Rattle.j39_node.proofs.CallLemmas.{transfers_heard, passed_is, news_heard, coming_is, heard_standing, holds_is, incoming_heard, made_heard, kept_rest, senders_rest, lost_is, missed_rest, refusal_rest, request_rest}
 use Rattle.j39_node.proofs.controller.Controller.hear.Goals as goal
 
 pub returns : goal.returns
@@ -41,8 +42,6 @@ returns c = λ w H h.
     subst (λ (u : View). Knows c.hear-received.new.holders (if is_double u.who (claim_of f) then told_claims w H else told_claims w H ++ f ∷ [])) h.shown
     (subst (λ (b : Bool). Knows c.hear-received.new.holders (if b then told_claims w H else told_claims w H ++ f ∷ []))
     (c.is_some.ensures ∙ ap is_some (c.double-doubled.ensures ∙ ap (double (who_of w.brought c.args.self.now.own)) claim_is)) (c.hear-received.ensures.knows (told_claims w H) h.holders)) in
-    let r : ℕ → Bool = λ a. is_replaced (holder w H a) (holder w (At t (Hear f) ∷ H) a) in
-    let current : (port_of c.args.self.now.transfers).current ≡ open_transfer w H = ap (λ (v : View). v.port.current) h.shown in
     let hold_now : c.heard-self-2.result ≡ hold_after w (At t (Hear f) ∷ H) =
     e8 ∙ ((λ i. heard (goes i) (asks i) (others i) ((h.shown i).who.delay * 600) (p i)) ∙ λ i. record (hold_after w (At t (Hear f) ∷ H)) {
       standing = heard_standing (is_smaller w (claim_of f)) (step H t) (address_after w H) i;
@@ -77,20 +76,13 @@ returns c = λ w H h.
     ap (λ (y : Option (ℕ × ℕ)). option_or y c.hear-broadcast.result.made) whole_is ∙ ap (option_or (made_of (whole w H t f))) on.made in
     let asked_now = fresh w (drop (length (handed H)) (requests w H)) (asked w (holds w H t) f) in
     let unread_now : length c.args.self.now.inbox.unread.items ≡ length (kept w H) - length (got H) = length_rest received_by c.args.self.now.inbox.unread.items (length (got H)) (kept w H) (ap (λ (v : View). v.unread) h.shown) in
-    let port_now : port_of c.hear-2.new.self ≡ port_after w (At t (Hear f) ∷ H) =
-    is_port _ _
-    (c.hear-2.ensures.current r
-    (subst (λ (y : Option Running). IfSome y (λ x. c.is_replaced-is_replaced.result ≡ is_replaced (holder w H x.sender.destination) (holder w (At t (Hear f) ∷ H) x.sender.destination)))
-    (sym current)
-    (replaced_is w H t f c.args.self.now.holders c.hear-received.new.holders c.is_replaced-is_replaced.result (open_transfer w H) (ported w H h.answered) h.holders knows
-    (subst (λ (y : Option Running). IfSome y (λ x. c.is_replaced-is_replaced.result ≡ is_replaced (holder_in c.args.self.now.holders x.sender.destination) (holder_in c.hear-received.new.holders x.sender.destination))) current (peers_are (port_of c.args.self.now.transfers).current c.is_replaced-is_replaced.result (option_map name_raw c.peer-before.result) (option_map name_raw c.peer.result) c.args.self.now.holders _ c.peer-before.ensures c.peer.ensures c.is_replaced-is_replaced.ensures))))
-    ∙ ((ap (λ (b : Bool). hears_if b r f (stamp_micros c.clock.result) (port_of c.args.self.now.transfers).current) c.is_lost.ensures ∙ ap (λ (n : ℕ). hears_if (lost c.heard-self-2.result.standing) r f n (port_of c.args.self.now.transfers).current) c.clock.ensures)
-    ∙ (ap (λ (b : Bool). hears_if b r f (min c.heard-self-2.result.age 9999999999999999) (port_of c.args.self.now.transfers).current)
-    (ap lost stands_now ∙ lost_is (address_after w (At t (Hear f) ∷ H)))
-    ∙ (ap (λ (n : ℕ). hears_if (is_lost (address_after w (At t (Hear f) ∷ H))) r f n (port_of c.args.self.now.transfers).current)
-    (ap (λ (n : ℕ). min n 9999999999999999) (ap (λ (k : Hold). k.age) e8 ∙ (ap (λ (k : Hold). k.age) p)) ∙ clock_is (age H + step H t))
-    ∙ ap (hears_if (is_lost (address_after w (At t (Hear f) ∷ H))) r f (clock_at H t)) current))))
-    (c.hear-2.ensures.token ∙ ap (λ (v : View). v.port.next_token) h.shown) (ap resting_by c.hear-2.ensures.resting ∙ ap (λ (v : View). v.port.resting) h.shown) in
+    let time_now : stamp_micros c.clock-clock.result ≡ clock_at w H t =
+    c.clock-clock.ensures ∙ (ap (λ (k : Hold). min k.age 9999999999999999) hold_now ∙ clock_is (age w H + step H t)) in
+    let state_now : (port_of c.hear-2.new.self).state ≡ transfers_at w (At t (Hear f) ∷ H) =
+    c.hear-2.ensures.heard
+    ∙ ((λ i. let s = (h.shown i).port.state in if (c.is_lost.ensures ∙ (ap lost stands_now ∙ lost_is (address_after w (At t (Hear f) ∷ H)))) i then transfers_lose (time_now i) s
+    else transfers_hear f (time_now i) (transfers_leave None (holders_are w (At t (Hear f) ∷ H) c.hear-received.new.holders knows i) (time_now i) s))
+    ∙ transfers_heard w H (is_lost (address_after w (At t (Hear f) ∷ H))) (clock_at w H t) (holder w (At t (Hear f) ∷ H)) f) in
     record {
       shown = λ i. record (h.shown i) {
         hold = hold_now i;
@@ -136,7 +128,7 @@ returns c = λ w H h.
             ∙ ((λ i. with_sender (on.made i) (sender_in (of (source_of f.id) (on.found i).current))
             ((ap (λ v. map (λ b. (in_box b).name) v.items) c.leave-breaks.ensures.whole ∙ ap (λ (v : View). v.broadcast_senders) h.shown) i))
             ∙ made_sender (made_whole w H t f) (sender_in (found w H t f (source_of f.id))) (broadcast_senders w H))) i;
-        port = port_now i;
+        port = record { state = state_now i; next_token = (c.hear-2.ensures.token ∙ ap (λ (v : View). v.port.next_token) h.shown) i };
       };
       answered = (h.answered, tt);
       holders = knows;

@@ -1,4 +1,5 @@
-use Rattle.j39_node.proofs.Common.{◌+◌, ◌-◌, ◌∙◌, acknowledged, ap, due, false, IncomingRecord, length, refl, refusal_by, Some, stamp_micros, sym, true, View, with_called, called_for}
+use Rattle.j39_node.proofs.Common.{◌+◌, ◌-◌, ◌∙◌, acknowledged, ap, due, false, IncomingRecord, length, refl, refusal_by, Some, stamp_micros, sym, true, View, with_called, called_for, None, holder_in, port_of, ℕ}
+use Rattle.j39_transfers.specs.Transfers.{leaves}
 use Rattle.j39_node.proofs.QueueLemmas.{first}
 use Rattle.j39_node.proofs.CallLemmas.{due_there, gives_is, follows, goes_is, none_acknowledged, peeks_none, one_acknowledged, passed_is, holds_is, taken_due, claims_more}
 use Rattle.j39_node.proofs.controller.Controller.take_frame.Goals as goal
@@ -22,7 +23,8 @@ returns-then-claims c = λ w H h.
     (goes_is w H (stamp_micros c.args.now) c.passed-hold.result c.gives_way-gives_way.result true p g (sym c.claims.ensures ∙ c.if-claims.true)) c.claimed-self.ensures c.in_ok-claim.ensures c.claim_address-address.ensures
     c.note.ensures.knows (c.call.ensures ∙ ap (λ (x : IncomingRecord). with_called (called_for (1250000 + (stamp_micros c.args.now - x.moment)) (Some c.claim_address-address.result) x.called) x) c.note.ensures.left) c.leave-breaks.result (stamp_micros c.call.new.self.clock)
     (ap (λ (x : IncomingRecord). x.clock) (c.call.ensures ∙ ap (λ (x : IncomingRecord). with_called (called_for (1250000 + (stamp_micros c.args.now - x.moment)) (Some c.claim_address-address.result) x.called) x) c.note.ensures.left) ∙ ap (λ (v : View). v.incoming.clock) h.shown)
-    c.leave-breaks.ensures.broken c.leave-breaks.ensures.left c.leave-breaks.ensures.whole c.with_missed-self.ensures refl
+    c.leave-breaks.ensures.broken c.leave-breaks.ensures.left c.leave-breaks.ensures.whole c.with_missed-self.ensures
+    (c.leave.ensures ∙ ap (λ (n : ℕ). leaves None (holder_in c.note.new.holders) n (port_of c.args.self.now.transfers).state) c.clock-clock.ensures) refl refl
 
 pub returns : goal.returns
 returns c = λ w H h.

@@ -1,4 +1,5 @@
-use Rattle.j39_node.proofs.Common.{◌+◌, ◌∙◌, ◌∷◌, ◌≡◌, ap, At, FrameRecord, Is, is_blank, map, Option, option_map, past, port_of, posted, refl, sends_if, Some, stamp_micros, subst, suc, sym, TakeFrame, transfer_by, true, ℕ}
+use Rattle.j39_node.proofs.Common.{◌+◌, ◌∙◌, ◌∷◌, ◌≡◌, ap, At, FrameRecord, Is, is_blank, map, Option, option_map, past, port_of, posted, refl, Some, stamp_micros, subst, suc, sym, TakeFrame, carried_by, said, ℕ}
+use Rattle.j39_transfers.specs.Transfers.{sends}
 use Rattle.j39_node.proofs.QueueLemmas.{read, read_none}
 use Rattle.j39_node.proofs.CallLemmas.{move_goes, packet_goes, single_there, taken, taken_none, taken_packet, taken_reply, taken_transfer}
 use Rattle.j39_node.proofs.FrameLemmas.{at_now}
@@ -44,12 +45,12 @@ returns-in_ok-frame-in-Move c = λ w H h o.
     let t = sym c.turn.ensures ∙ (c.in_ok-turn.was ∙ ap Some c.in-Move.is) in
     taken_transfer w H c.args.self.now _ (stamp_micros c.args.now) c.in_ok-frame-in-Move.frame c.args.hold h o t
     (c.in_ok-frame-in-Move.ensures
-    ∙ ap (λ (n : ℕ). option_map (at_now (stamp_micros c.args.now)) (transfer_by (port_of c.args.self.now.transfers).current n)) c.clock-clock.ensures)
-    refl (c.taken.ensures.current ∙ ap (λ (n : ℕ). sends_if true n (port_of c.args.self.now.transfers).current) c.clock-clock.ensures) c.taken.ensures.token c.taken.ensures.resting c.went-self.ensures
+    ∙ ap (λ (n : ℕ). option_map (at_now (stamp_micros c.args.now)) (option_map carried_by (said n (port_of c.args.self.now.transfers).state))) c.clock-clock.ensures)
+    refl (c.drop_frame.ensures.sent ∙ ap (λ (n : ℕ). sends n (port_of c.args.self.now.transfers).state) c.clock-clock.ensures) refl c.went-self.ensures
 
 pub returns-in_err-frame-in-Move : goal.returns-in_err-frame-in-Move
 returns-in_err-frame-in-Move c = λ w H h o.
     let t = sym c.turn.ensures ∙ (c.in_ok-turn.was ∙ ap Some c.in-Move.is) in
     absurd (move_goes c.args.self.now c.args.hold (stamp_micros c.args.now) t
     (c.in_err-frame-in-Move.ensures
-    ∙ ap (λ (n : ℕ). option_map (at_now (stamp_micros c.args.now)) (transfer_by (port_of c.args.self.now.transfers).current n)) c.clock-clock.ensures))
+    ∙ ap (λ (n : ℕ). option_map (at_now (stamp_micros c.args.now)) (option_map carried_by (said n (port_of c.args.self.now.transfers).state))) c.clock-clock.ensures))

@@ -1,35 +1,38 @@
-use Rattle.j39_node.proofs.Common.{◌∙◌, ap, arith, begun, broadcast_from, can_transfer, Ok, pgn_raw, refl, stamp_micros, sym, View, Who, length, all_transfers, not_true, Some, Hold, ◌∷◌, [], ◌++◌, ◌+◌, ◌≡◌}
-use Rattle.j39_node.proofs.CallLemmas.{led_so, engaged_is, follows}
+use Rattle.j39_node.proofs.Common.{◌∙◌, ◌||◌, age, ap, can_transfer, clock_at, Hold, length, all_transfers, min, nat_eq, not, order, pgn_raw, refl, stamp_micros, step, sym, View, answer, if◌then◌else◌, ◌+◌, ◌≡◌}
+use Rattle.std.specs.Result.{is_ok}
+use Rattle.j39_transfers.specs.Transfers.{awake, begins}
+use Rattle.j39_node.proofs.CallLemmas.{led_so, follows, tokens_tried, transfers_tried}
+use Rattle.j39_node.proofs.PortLemmas.{clock_is}
+use Rattle.j39_node.proofs.ReceptionLemmas.{table_is}
 use Rattle.j39_node.proofs.controller.Controller.transfer.Goals as goal
 use Rattle.j39_node.proofs.AnswerCases.{answer_is}
-use Rattle.j39_node.proofs.QueueLemmas.{length_one_more}
 
-pub returns-else-refuses : goal.returns-else-refuses
-returns-else-refuses c = λ w H h.
-    let p = led_so w H (stamp_micros c.args.now) c.args.self.now c.passed-self.result c.is_held.result h c.passed-self.ensures c.is_held.ensures in
+pub returns : goal.returns
+returns c = λ w H h.
+    let now = stamp_micros c.args.now in
+    let group = pgn_raw c.args.group in
+    let bytes = c.args.bytes.now in
+    let p = led_so w H now c.args.self.now c.passed-self.result c.is_held.result h c.passed-self.ensures c.is_held.ensures in
+    let can = c.can_transfer.ensures ∙ ap (λ (u : View). can_transfer u.who group c.args.to bytes) h.shown in
+    let time : stamp_micros c.clock-clock.result ≡ clock_at w H now =
+    c.clock-clock.ensures ∙ (ap (λ (k : Hold). min k.age 9999999999999999) p.0 ∙ clock_is (age w H + step H now)) in
+    let name = c.holder-name.ensures.value ∙ table_is w c.args.self.now.holders H c.args.to h.holders in
+    let answers = c.begin.ensures.answers ∙ λ i. let n = (h.shown i).port.next_token in
+    if nat_eq n 18446744073709551615 || not (is_ok (answer (order n group c.args.to bytes) (awake (time i) (h.shown i).port.state))) then Rattle.std.specs.Prelude.Err Rattle.j39_node.specs.declared.kinds.Refused.TheVariants.Full else Rattle.std.specs.Prelude.Ok n in
     follows h refl
-    (sym (answer_is (length (all_transfers w H)) (sym p.1 ∙ c.if-not-is_held.false)
-    (ap (λ (v : Who). can_transfer v (pgn_raw c.args.group) c.args.to c.args.bytes.now) (sym (ap (λ (v : View). v.who) h.shown)) ∙ c.in-Some.ensures.known.0 refl)
-    (sym (engaged_is w H c.args.self.now (stamp_micros c.args.now) (pgn_raw c.args.group) c.args.to c.passed-self.result h p.0) ∙ (sym c.refuses.ensures.value ∙ c.if-refuses.false))
-    ∙ ap Ok (sym (ap (λ (v : View). v.port.next_token) h.shown)))) refl
+    (answers ∙ answer_is (length (all_transfers w H)) (sym c.if-not-is_held.false ∙ p.1) (sym c.if-not-can_transfer.false ∙ can) refl) refl
     (λ i. record (h.shown i) {
-      hold = (c.renewed-self.ensures ∙ ap (λ (k : Hold). record k { age = 0 }) p.0) i;
-      port = record (h.shown i).port {
-        current = Some ((c.in-Some.ensures.value ∙ ap (λ (u : View). begun c.args.self.now.transfers.next_token (broadcast_from u.who (pgn_raw c.args.group) c.args.bytes.now) c.args.to) h.shown) i);
-        next_token = (let a = ap (λ (v : View). v.port.next_token) h.shown in let m = length_one_more (all_transfers w H) (c.args.to, broadcast_from w (pgn_raw c.args.group) c.args.bytes.now) in
-            (let z : c.args.self.now.transfers.next_token + 1 ≡ length (all_transfers w H ++ (c.args.to, broadcast_from w (pgn_raw c.args.group) c.args.bytes.now) ∷ []) = omega (arith, a, m) in z)) i;
+      hold = p.0 i;
+      port = record {
+        state = (c.begin.ensures.begins ∙ ((λ i. let n = (h.shown i).port.next_token in let s = (h.shown i).port.state in
+            if nat_eq n 18446744073709551615 then s else begins (order n group c.args.to bytes) (name i) (time i) s)
+            ∙ transfers_tried w H now group c.args.to bytes _ c.begin.result answers)) i;
+        next_token = (c.begin.ensures.token ∙ tokens_tried w H now group c.args.to bytes _ c.begin.result (ap (λ (v : View). v.port.next_token) h.shown)) i;
       };
     })
 
-pub returns-then-refuses : goal.returns-then-refuses
-returns-then-refuses c = λ w H h.
+pub returns-then-not-can_transfer : goal.returns-then-not-can_transfer
+returns-then-not-can_transfer c = λ w H h.
     let p = led_so w H (stamp_micros c.args.now) c.args.self.now c.passed-self.result c.is_held.result h c.passed-self.ensures c.is_held.ensures in
     follows h refl (sym (answer_is (length (all_transfers w H)) (sym p.1 ∙ c.if-not-is_held.false)
-    (ap (λ (v : Who). can_transfer v (pgn_raw c.args.group) c.args.to c.args.bytes.now) (sym (ap (λ (v : View). v.who) h.shown)) ∙ c.in-Some.ensures.known.0 refl)
-    (sym (engaged_is w H c.args.self.now (stamp_micros c.args.now) (pgn_raw c.args.group) c.args.to c.passed-self.result h p.0) ∙ (sym c.refuses.ensures.value ∙ c.if-refuses.true)))) refl (λ i. record (h.shown i) { hold = p.0 i })
-
-pub returns-in-None : goal.returns-in-None
-returns-in-None c = λ w H h.
-    let p = led_so w H (stamp_micros c.args.now) c.args.self.now c.passed-self.result c.is_held.result h c.passed-self.ensures c.is_held.ensures in
-    follows h refl (sym (answer_is (length (all_transfers w H)) (sym p.1 ∙ c.if-not-is_held.false)
-    (ap (λ (v : Who). can_transfer v (pgn_raw c.args.group) c.args.to c.args.bytes.now) (sym (ap (λ (v : View). v.who) h.shown)) ∙ not_true _ c.in-None.ensures.known.1) refl)) refl (λ i. record (h.shown i) { hold = p.0 i })
+    (sym (c.can_transfer.ensures ∙ ap (λ (u : View). can_transfer u.who (pgn_raw c.args.group) c.args.to c.args.bytes.now) h.shown) ∙ c.if-not-can_transfer.true) refl)) refl (λ i. record (h.shown i) { hold = p.0 i })

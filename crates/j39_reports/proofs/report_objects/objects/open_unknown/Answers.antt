@@ -1,5 +1,6 @@
 -- The group doesn't stand in the block.
-use Rattle.j39_reports.proofs.Common.{◌≡◌, ◌∙◌, ◌++◌, List, ℕ, ap, append_assoc, arith, codes, decimal, option_map, name_raw, pgn_raw, refl, stamp_micros, before_end, before_then}
+use Rattle.j39_reports.proofs.Common.{◌≡◌, ◌∙◌, ◌++◌, List, ℕ, ap, append_assoc, codes, decimal, option_map, name_raw, refl, stamp_micros, before_then}
+use Rattle.j39_reports.proofs.ForwardLemmas.{part_before}
 use Rattle.j39_reports.specs.EntryObject.{group_member, moment_members, opening_text, sender_members}
 use Rattle.j39_reports.proofs.report_objects.objects.open_unknown.Goals as goal
 
@@ -14,7 +15,7 @@ returns c =
     let moment = moment_members (stamp_micros heard.message.stamp) in
     let sender = sender_members heard.message.source heard.destination name in
     let called = option_map (λ text. text.now) c.group_name.result in
-    ap (λ t. t ++ group_member called) (before_end _ _ 192 _ _ (let whole = c.args.opening.now.whole in omega (arith, whole)) (before_then _ _ _ _ _ _ _ _ (before_then _ _ _ _ _ _ _ _
+    ap (λ t. t ++ group_member called) (part_before _ _ 192 _ _ (before_then _ _ _ _ _ _ _ _ (before_then _ _ _ _ _ _ _ _
     c.digits_before-number.ensures.written c.bytes_before-key.ensures.written) c.heard_before-opening.ensures)
     ∙ parts moment sender (decimal c.raw.result))
     ∙ (λ i. (moment ++ sender ++ codes ",\"pgn\":" ++ decimal (c.raw.ensures.value i)) ++ group_member (c.group_name.ensures i))

@@ -9,6 +9,6 @@ joined fields told pgn same = rw same (simp append_assoc refl)
 pub returns : goal.returns
 returns c =
     let heard = c.args.heard.now in
-    subst (WritesBefore c.args.out.now c.heard_before.new.out 96 c.heard_before.result)
+    subst (WritesBefore c.args.out.now c.heard_before.new.out 192 c.heard_before.result)
     (joined (heard_fields (stamp_micros heard.message.stamp) heard.message.source heard.destination (option_map name_raw heard.name)) c.raw.result (pgn_raw heard.message.pgn) c.raw.ensures.value)
     (before_then _ _ _ _ _ _ _ _ (before_then _ _ _ _ _ _ _ _ c.digits_before-group.ensures.written c.byte_before-comma.ensures) c.heard_before.ensures)

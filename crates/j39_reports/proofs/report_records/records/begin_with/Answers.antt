@@ -1,5 +1,6 @@
 -- The group's name stands in the block, or not.
-use Rattle.j39_reports.proofs.Common.{◌≡◌, ◌∙◌, ◌++◌, ◌∷◌, [], List, ℕ, ap, append_assoc, arith, decimal, drop, refl, subst, option_map, name_raw, pgn_raw, stamp_micros, WritesBefore, later_text, before_end, before_then}
+use Rattle.j39_reports.proofs.Common.{◌≡◌, ◌∙◌, ◌++◌, ◌∷◌, [], List, ℕ, ap, append_assoc, decimal, drop, refl, subst, option_map, name_raw, pgn_raw, stamp_micros, WritesBefore, later_text, before_then}
+use Rattle.j39_reports.proofs.ForwardLemmas.{part_before}
 use Rattle.j39_reports.specs.Columns.{heard_fields}
 use Rattle.j39_reports.specs.EntryText.{group_called}
 use Rattle.j39_reports.proofs.report_records.records.begin_with.Goals as goal
@@ -17,6 +18,6 @@ returns c =
     let fields = heard_fields (stamp_micros heard.message.stamp) heard.message.source heard.destination (option_map name_raw heard.name) in
     let said : drop side.from side.text ≡ (44 ∷ decimal pgn) ++ later =
     c.in-Some.ensures.suits.text_is ∙ ap (λ n. (44 ∷ decimal n) ++ later_text (group_called groups n)) (c.in-Some.ensures.pgn ∙ c.raw.ensures.value) in
-    before_end _ _ 96 _ _ (let whole = c.args.begin.now.whole in omega (arith, whole)) (before_then _ _ _ _ _ _ _ _
-    (subst (WritesBefore c.args.begin.now.head c.tail_before-group.new.out 96 c.tail_before-group.result) said c.tail_before-group.ensures.written) c.heard_before-begin.ensures)
+    part_before _ _ 192 _ _ (before_then _ _ _ _ _ _ _ _
+    (subst (WritesBefore c.args.begin.now.block c.tail_before-group.new.out 192 c.tail_before-group.result) said c.tail_before-group.ensures.written) c.heard_before-begin.ensures)
     ∙ joined fields (decimal pgn) later

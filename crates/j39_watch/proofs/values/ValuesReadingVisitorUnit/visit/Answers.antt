@@ -1,11 +1,11 @@
 -- The reading goes to its row.
-use Rattle.j39_watch.proofs.Common.{◌≡◌, ◌∷◌, ◌++◌, [], ◌∙◌, ap, refl, List, Origin, pairs_of, stamp_micros, on_ok_from, told, Entry, SightingRecord, ReadingRecord, entry_of}
+use Rattle.j39_watch.proofs.Common.{◌≡◌, ◌∷◌, ◌++◌, [], ◌∙◌, ap, refl, List, Origin, pairs_of, stamp_micros, subst, on_ok_from, told, Entry, SightingRecord, ReadingRecord, entry_of}
 use Rattle.j39_reports.specs.RowModels.{entry_at}
 use Rattle.j39_reports.specs.MessageHeads.{origin_in}
 use Rattle.j39_reports.proofs.HeadLemmas.{entry_with}
 use Rattle.j39_watch.specs.LatestSoFar.{AreLatest, Behind, HasFollowedMessage}
 use Rattle.j39_watch.specs.declared.values.Values.{Values}
-use Rattle.j39_watch.proofs.ValueLemmas.{values_take}
+use Rattle.j39_reports.proofs.TakenLemmas.{told_more}
 use Rattle.j39_watch.proofs.values.ValuesReadingVisitorUnit.visit.Goals as goal
 
 -- the rows have the reading's entry
@@ -16,7 +16,7 @@ took old new r o own head taken message before has =
     let is : entry_at o (stamp_micros old.head.stamp) r.value ≡ entry_of message.hearing r =
     ap (λ (x : Origin). entry_at x (stamp_micros old.head.stamp) r.value) own ∙ entry_with old.head message.hearing r has.head_is in
     record {
-      are_latest = values_take message before (pairs_of new.rows) r _ is (taken _ has.are_latest);
+      are_latest = subst (AreLatest (pairs_of new.rows)) (told_more message.before message.hearing before r _ is) (taken _ has.are_latest);
       head_is = rw head has.head_is;
     }
 

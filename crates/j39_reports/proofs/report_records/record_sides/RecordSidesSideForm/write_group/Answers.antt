@@ -1,5 +1,5 @@
 -- The parts, one before the other.
-use Rattle.j39_reports.proofs.Common.{◌++◌, ◌∷◌, ap, decimal, later_text, subst, WritesBefore, before_then}
+use Rattle.j39_reports.proofs.Common.{◌++◌, ◌∷◌, decimal, later_text, subst, WritesBefore, before_then}
 use Rattle.j39_reports.proofs.report_records.record_sides.RecordSidesSideForm.write_group.Goals as goal
 
 pub returns-clause-written : goal.returns-clause-written

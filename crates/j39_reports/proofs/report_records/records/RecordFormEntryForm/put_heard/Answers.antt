@@ -1,31 +1,38 @@
 -- All readings were taken, or some.
-use Rattle.j39_reports.proofs.Common.{◌∙◌, [], Bor, List, RowRecord, ap, subst, length, refl, sym, length-map, puts_done, puts_failed, readings_in, told_are, capped, entry_of, hearing_of}
+use Rattle.j39_reports.proofs.Common.{◌∙◌, [], Bor, List, RowRecord, ap, subst, length, refl, sym, take, length-map, puts_done, puts_failed, readings_in, told_are, capped, entry_of, hearing_of}
 use Rattle.j39_reports.specs.EntryText.{entry_record}
 use Rattle.j39_reports.specs.MessageEntries.{Begun}
 use Rattle.j39_reports.specs.MessageRecords.{IsBegun}
-use Rattle.j39_reports.proofs.EntryLemmas.{none_yet, stops_among}
+use Rattle.j39_reports.proofs.EntryLemmas.{none_yet, puts_waiting, stops_among}
 use Rattle.j39_reports.proofs.report_records.records.RecordFormEntryForm.put_heard.Goals as goal
 
-pub returns-in-Ok-clause-lines : goal.returns-in-Ok-clause-lines
-returns-in-Ok-clause-lines g c =
+pub returns-in_ok-put-in-Ok-clause-lines : goal.returns-in_ok-put-in-Ok-clause-lines
+returns-in_ok-put-in-Ok-clause-lines g c =
     let h = hearing_of c.args.heard.now in
     let readings = readings_in c.args.self.now.known.groups.now h.message.pgn h.message.bytes in
     let begun : Begun = record { groups = c.args.self.now.known.groups.now; hearing = h; writer = _ } in
-    (c.in-Ok.ensures.taken begun [] (record { is_begun = subst (λ (rows : List RowRecord). IsBegun rows h c.new-records.result) (ap (λ (x : Bor (List RowRecord)). x.now) c.meet_group.ensures) c.new-records.ensures.begun; have = none_yet entry_record begun _ c.new-records.ensures.none })).have.lines_are
+    (c.in-Ok.ensures.taken begun [] (record { is_begun = subst (λ (rows : List RowRecord). IsBegun rows h c.new-records.result) (ap (λ (x : Bor (List RowRecord)). x.now) c.meet_group.ensures) c.new-records.ensures.begun; have = none_yet entry_record begun _ _ c.new-records.ensures.none (ap (λ n. take n c.new-records.result.waiting.now.block) c.new-records.ensures.waiting) })).have.lines_are
     ∙ ap (λ rs. capped (length rs)) (told_are c.args.self.now.known.groups.now h.message.pgn h.message.bytes)
     ∙ ap capped (sym (length-map readings (entry_of h)))
 
-pub returns-in-Ok-clause-puts : goal.returns-in-Ok-clause-puts
-returns-in-Ok-clause-puts g c =
+pub returns-in_ok-put-in-Ok-clause-puts : goal.returns-in_ok-put-in-Ok-clause-puts
+returns-in_ok-put-in-Ok-clause-puts g c =
     let h = hearing_of c.args.heard.now in
     let begun : Begun = record { groups = c.args.self.now.known.groups.now; hearing = h; writer = _ } in
     rw (← told_are c.args.self.now.known.groups.now h.message.pgn h.message.bytes) (puts_done _ _ _ _
-    (c.in-Ok.ensures.taken begun [] (record { is_begun = subst (λ (rows : List RowRecord). IsBegun rows h c.new-records.result) (ap (λ (x : Bor (List RowRecord)). x.now) c.meet_group.ensures) c.new-records.ensures.begun; have = none_yet entry_record begun _ c.new-records.ensures.none })).have.written)
+    (puts_waiting entry_record begun _ _ _ _ _ _ (c.in-Ok.ensures.taken begun [] (record { is_begun = subst (λ (rows : List RowRecord). IsBegun rows h c.new-records.result) (ap (λ (x : Bor (List RowRecord)). x.now) c.meet_group.ensures) c.new-records.ensures.begun; have = none_yet entry_record begun _ _ c.new-records.ensures.none (ap (λ n. take n c.new-records.result.waiting.now.block) c.new-records.ensures.waiting) })).have c.in_ok-put-in-Ok.ensures.puts))
+
+pub returns-in_err-put-in-Ok-clause-puts : goal.returns-in_err-put-in-Ok-clause-puts
+returns-in_err-put-in-Ok-clause-puts g c =
+    let h = hearing_of c.args.heard.now in
+    let begun : Begun = record { groups = c.args.self.now.known.groups.now; hearing = h; writer = _ } in
+    rw (← told_are c.args.self.now.known.groups.now h.message.pgn h.message.bytes) (puts_failed _ _ _ _ c.from_residual.ensures.0
+    (puts_waiting entry_record begun _ _ _ _ _ _ (c.in-Ok.ensures.taken begun [] (record { is_begun = subst (λ (rows : List RowRecord). IsBegun rows h c.new-records.result) (ap (λ (x : Bor (List RowRecord)). x.now) c.meet_group.ensures) c.new-records.ensures.begun; have = none_yet entry_record begun _ _ c.new-records.ensures.none (ap (λ n. take n c.new-records.result.waiting.now.block) c.new-records.ensures.waiting) })).have c.in_err-put-in-Ok.ensures.puts))
 
 pub returns-in-Err-clause-puts : goal.returns-in-Err-clause-puts
 returns-in-Err-clause-puts g c =
     let h = hearing_of c.args.heard.now in
     let begun : Begun = record { groups = c.args.self.now.known.groups.now; hearing = h; writer = _ } in
-    let w = c.in-Err.ensures.stopped begun [] (record { is_begun = subst (λ (rows : List RowRecord). IsBegun rows h c.new-records.result) (ap (λ (x : Bor (List RowRecord)). x.now) c.meet_group.ensures) c.new-records.ensures.begun; have = none_yet entry_record begun _ c.new-records.ensures.none }) in
+    let w = c.in-Err.ensures.stopped begun [] (record { is_begun = subst (λ (rows : List RowRecord). IsBegun rows h c.new-records.result) (ap (λ (x : Bor (List RowRecord)). x.now) c.meet_group.ensures) c.new-records.ensures.begun; have = none_yet entry_record begun _ _ c.new-records.ensures.none (ap (λ n. take n c.new-records.result.waiting.now.block) c.new-records.ensures.waiting) }) in
     rw (← told_are c.args.self.now.known.groups.now h.message.pgn h.message.bytes) (puts_failed _ _ _ _ refl
     (stops_among entry_record begun w.taken w.at w.rest _ _ w.sightings_are w.stopped))

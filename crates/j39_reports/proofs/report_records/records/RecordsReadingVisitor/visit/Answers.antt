@@ -1,6 +1,7 @@
 -- The record of the reading behind the others.
-use Rattle.j39_reports.proofs.Common.{◌∷◌, [], filter_map-append, on_err, puts_as, value_of, told_by, told_in, visited}
+use Rattle.j39_reports.proofs.Common.{◌∷◌, [], filter_map-append, on_err, value_of, told_by, told_in, visited}
 use Rattle.j39_reports.specs.EntryText.{entry_record}
+use Rattle.j39_reports.proofs.ForwardLemmas.{gathers_as}
 use Rattle.j39_reports.proofs.EntryLemmas.{stops_here, takes_this}
 use Rattle.j39_reports.proofs.RecordLemmas.{record_is}
 use Rattle.j39_reports.proofs.report_records.records.RecordsReadingVisitor.visit.Goals as goal
@@ -9,14 +10,14 @@ pub returns-in_err-missed-clause-stopped : goal.returns-in_err-missed-clause-sto
 returns-in_err-missed-clause-stopped g c =
     on_err c.from_residual.result _ (λ subject before has.
     rw (filter_map-append told_by before (visited c.args.spn c.args.value ∷ []))
-    (stops_here entry_record subject (told_in before) _ _ c.args.self.now.lines _ _ has.have
-    (puts_as _ _ _ _ (record_is subject.groups subject.hearing c.args.self.now has.is_begun c.args.spn (value_of c.args.value)) c.in_err-missed.ensures)))
+    (stops_here entry_record subject (told_in before) _ _ c.args.self.now.lines _ _ _ _ has.have
+    (gathers_as _ _ _ _ _ _ (record_is subject.groups subject.hearing c.args.self.now has.is_begun c.args.spn (value_of c.args.value)) c.in_err-missed.ensures)))
 
 pub returns-clause-taken : goal.returns-clause-taken
 returns-clause-taken g c = λ subject before has.
     rw (filter_map-append told_by before (visited c.args.spn c.args.value ∷ []))
     (record {
       is_begun = record { by = has.is_begun.by; begin_is = has.is_begun.begin_is; pgn_is = has.is_begun.pgn_is };
-      have = takes_this entry_record subject (told_in before) _ c.args.self.now.lines _ _ _ _ has.have c.saturating_add-self.ensures
-          (puts_as _ _ _ _ (record_is subject.groups subject.hearing c.args.self.now has.is_begun c.args.spn (value_of c.args.value)) c.in_ok-missed.ensures);
+      have = takes_this entry_record subject (told_in before) _ c.args.self.now.lines _ _ _ _ _ _ has.have c.saturating_add-self.ensures
+          (gathers_as _ _ _ _ _ _ (record_is subject.groups subject.hearing c.args.self.now has.is_begun c.args.spn (value_of c.args.value)) c.in_ok-missed.ensures);
     })

@@ -1,11 +1,11 @@
 -- The reading goes to its row, and what is not available stays.
-use Rattle.j39_reports.proofs.Common.{◌≡◌, ◌∷◌, ◌++◌, [], ◌∙◌, ap, refl, List, Origin, pairs_of, stamp_micros, on_ok_from, told, Entry, SightingRecord, ReadingRecord, entry_of}
+use Rattle.j39_reports.proofs.Common.{◌≡◌, ◌∷◌, ◌++◌, [], ◌∙◌, ap, refl, List, Origin, pairs_of, stamp_micros, subst, on_ok_from, told, Entry, SightingRecord, ReadingRecord, entry_of}
 use Rattle.j39_reports.specs.RowModels.{entry_at}
 use Rattle.j39_reports.specs.RowsSoFar.{AreRowsOf, HasTaken, Message}
 use Rattle.j39_reports.specs.MessageHeads.{origin_in}
 use Rattle.j39_reports.specs.declared.summaries.rows.Rows.{Rows}
 use Rattle.j39_reports.proofs.HeadLemmas.{entry_with}
-use Rattle.j39_reports.proofs.TakenLemmas.{counts_keep, rows_take}
+use Rattle.j39_reports.proofs.TakenLemmas.{counts_keep, told_more}
 use Rattle.j39_reports.proofs.summaries.rows.RowsReadingVisitorUnit.visit.Goals as goal
 
 -- the rows have the reading's entry
@@ -16,7 +16,7 @@ took old new r o own head absences taken message before has =
     let is : entry_at o (stamp_micros old.head.stamp) r.value ≡ entry_of message.hearing r =
     ap (λ (x : Origin). entry_at x (stamp_micros old.head.stamp) r.value) own ∙ entry_with old.head message.hearing r has.head_is in
     record {
-      are_rows = rows_take message before (pairs_of new.rows) r _ is (taken _ has.are_rows);
+      are_rows = subst (AreRowsOf (pairs_of new.rows)) (told_more message.before message.hearing before r _ is) (taken _ has.are_rows);
       are_counted = rw absences (counts_keep message before (pairs_of old.absences.counts) r has.are_counted);
       head_is = rw head has.head_is;
     }

@@ -7,11 +7,10 @@ use Rattle.j39_listen.proofs.CountLemmas.{capped_more}
 use Rattle.j39_survey.proofs.surveys.arrivals.Arrivals.add.Goals as goal
 
 pub returns : goal.returns
-returns c = λ frames h.
-    let f = c.args.frame.now in
+returns c = λ frames f id moment h.
     let more : c.saturating_add-self.result ≡ capped (c.args.self.now.count + 1) = omega arith in
-    let source : c.source.result ≡ source_of f.id = c.source.ensures ∙ ap (λ (x : FrameRecord). source_of x.id) c.frame.view_is in
-    let stamp = ap (λ (x : FrameRecord). x.stamp) c.frame.view_is in
+    let source : c.source.result ≡ source_of f.id = c.source.ensures ∙ ap source_of (sym id) in
+    let stamp = sym moment in
     record {
       count_is = more ∙ capped_more c.args.self.now.count (length frames) h.count_is ∙ ap capped (sym (length_push frames f));
       senders_are = subst (HaveSent c.add.new.self) (ap (λ (x : ℕ). map (λ (g : FrameRecord). source_of g.id) frames ++ x ∷ []) source ∙ sym (map-append (λ (g : FrameRecord). source_of g.id) frames (f ∷ [])))

@@ -4,20 +4,20 @@ use Rattle.j39_survey.specs.SurveySoFar.{with_stamp}
 use Rattle.j39_survey.proofs.InterfaceLemmas.{looked, looked_full, looked_new, looked_told}
 use Rattle.j39_survey.proofs.surveys.interfaces.Interfaces.add.Goals as goal
 
-pub returns-then-meet : goal.returns-then-meet
-returns-then-meet c = λ seen s named is at h.
+pub returns-then-meet-clause-met : goal.returns-then-meet-clause-met
+returns-then-meet-clause-met c = λ seen s named is at h.
     let l = looked c.args.self.now _ c.meet.new.told c.args.name.now (stamp_micros c.args.stamp) c.meet.result c.as_mut_slice.ensures.value c.meet.ensures.met c.meet.ensures.found c.meet.auto.told in
     looked_told c.args.self.now _ c.meet.new.told seen s c.args.name.now (stamp_micros c.args.stamp) c.meet.result l is at h refl refl c.if-meet.true
 
-pub returns-then-is_full : goal.returns-then-is_full
-returns-then-is_full c = λ seen s named is at h.
+pub returns-then-is_full-clause-met : goal.returns-then-is_full-clause-met
+returns-then-is_full-clause-met c = λ seen s named is at h.
     let l = looked c.args.self.now _ c.meet.new.told c.args.name.now (stamp_micros c.args.stamp) c.meet.result c.as_mut_slice.ensures.value c.meet.ensures.met c.meet.ensures.found c.meet.auto.told in
     let full = eqb-true _ 16 (sym c.is_full.ensures.value ∙ c.if-is_full.true) in
     let more : c.saturating_add-self.result ≡ capped (c.args.self.now.untold + 1) = omega arith in
     looked_full c.args.self.now _ c.meet.new.told seen s c.args.name.now (stamp_micros c.args.stamp) c.meet.result l is at h refl more c.if-meet.false full
 
-pub returns-else-is_full : goal.returns-else-is_full
-returns-else-is_full c = λ seen s named is at h.
+pub returns-else-is_full-clause-met : goal.returns-else-is_full-clause-met
+returns-else-is_full-clause-met c = λ seen s named is at h.
     let l = looked c.args.self.now _ c.meet.new.told c.args.name.now (stamp_micros c.args.stamp) c.meet.result c.as_mut_slice.ensures.value c.meet.ensures.met c.meet.ensures.found c.meet.auto.told in
     let some = eqb-false _ 16 (sym c.is_full.ensures.value ∙ c.if-is_full.false) in
     let a = c.args.self.now in

@@ -26,8 +26,9 @@ returns-in-Frame-clause-surveyed c = on_ok_weaker c.meet.result (λ meets given 
     let more : c.saturating_add-self.result ≡ capped (c.args.self.now.lines + 1) = omega arith in
     let met = meets reads.parts.bus_is in
     surveys_frame lines line c.args.self.now _ given c.in-Frame.bus.now c.in-Frame.frame h is more
-    (λ s on content. c.add.ensures (seen_in lines) s reads.parts.bus_is on (ap (λ (f : FrameRecord). f.stamp) (content ∙ sym c.frame.view_is)) h.interfaces_are)
+    (λ s on content. c.add.ensures.met (seen_in lines) s reads.parts.bus_is on (ap (λ (f : FrameRecord). f.stamp) (content ∙ sym c.frame.view_is)) h.interfaces_are)
     (bus_known c.args.self.now.bus c.in-Frame.bus.now c.in-Frame.frame c.meet.new.bus met.bus_is ∙ rw (h.bus_is, sym is) refl)
+    (c.add.ensures.placed c.meet.new.bus)
     (meets_on_bus lines line given h.heard c.in-Frame.bus.now c.in-Frame.frame c.args.self.now.bus c.meet.new.bus c.args.self.now.traffic c.meet.new.traffic is h.bus_is met h.met)
     refl refl refl) c.meet.ensures.met
 
