@@ -80,12 +80,11 @@ static void be_told(uint64_t now, const j1939_message *message) {
 static void answer(uint64_t now, const j1939_request *request) {
     const uint8_t *text = request->pgn == VIN ? vin : component;
     size_t size = request->pgn == VIN ? sizeof vin - 1 : sizeof component - 1;
+    uint8_t to = request->destination == ALL ? ALL : request->source;
     uint64_t token;
     if (request->pgn == DM1) {
         send_faults(now);
-    } else if (request->destination == ALL) {
-        (void)j1939_controller_broadcast(&engine, now, request->pgn, text, size, &token);
-    } else if (j1939_controller_transfer(&engine, now, request->pgn, request->source, text, size, &token) < 0) {
+    } else if (j1939_controller_send(&engine, now, 6, request->pgn, to, text, size, &token) < 0 && to != ALL) {
         (void)j1939_controller_acknowledge(&engine, now, request, J1939_BUSY);
     }
 }

@@ -17,9 +17,12 @@ LIES(j1939_message, 1816);
 LIES(j1939_reading, 24);
 LIES(j1939_broadcast, 16);
 LIES(j1939_claims, 2288);
+LIES(j1939_peers, 4576);
+LIES(j1939_peer, 24);
 LIES(j1939_node, 2312);
 LIES(j1939_handle, 16);
 LIES(j1939_ended, 16);
+LIES(j1939_request, 16);
 _Static_assert(sizeof(j1939_wrong) == 8 && offsetof(j1939_wrong, column) == 4, "j1939_wrong");
 _Static_assert(offsetof(j1939_node, moment) == 16 && offsetof(j1939_node, claims) == 24, "j1939_node");
 
@@ -97,13 +100,13 @@ int32_t j39_controller_status(j1939_handle *controller, uint8_t *address);
 int32_t j39_controller_holder(j1939_handle *controller, uint8_t address, uint64_t *name);
 int32_t j39_controller_address_of(j1939_handle *controller, uint64_t name, uint8_t *address);
 int32_t j39_controller_free_address(j1939_handle *controller, uint8_t *address);
+void j39_peers_init(j1939_peers *peers);
+int32_t j39_peers_hear(j1939_peers *peers, const j1939_frame *frame, uint64_t micros);
+int32_t j39_peers_take(j1939_peers *peers, j1939_handle *controller, j1939_peer *peer);
+int32_t j39_peers_heard_since(const j1939_peers *peers, j1939_handle *controller, uint64_t name, uint64_t micros);
 int32_t j39_controller_move_to(j1939_handle *controller, uint8_t address);
 int32_t j39_controller_send(j1939_handle *controller, uint64_t micros, uint8_t priority, uint32_t pgn, uint8_t to,
                             const uint8_t *payload, uint64_t size, uint64_t *token);
-int32_t j39_controller_broadcast(j1939_handle *controller, uint64_t micros, uint32_t pgn, const uint8_t *payload,
-                                 uint64_t size, uint64_t *token);
-int32_t j39_controller_transfer(j1939_handle *controller, uint64_t micros, uint32_t pgn, uint8_t to,
-                                const uint8_t *payload, uint64_t size, uint64_t *token);
 int32_t j39_controller_ask(j1939_handle *controller, uint64_t micros, uint32_t pgn, uint8_t to, uint64_t *token);
 int32_t j39_controller_take_ended(j1939_handle *controller, j1939_ended *ended);
 int32_t j39_controller_take_received(j1939_handle *controller, j1939_message *message, uint8_t *priority);
@@ -513,6 +516,29 @@ int32_t j1939_controller_free_address(const j1939_controller *controller, uint8_
     return j39_controller_free_address(&held, address);
 }
 
+int32_t j1939_peers_init(j1939_peers *peers) {
+    if (!peers) return J1939_NULL;
+    j39_peers_init(peers);
+    return 0;
+}
+
+int32_t j1939_peers_hear(j1939_peers *peers, const j1939_frame *frame, uint64_t micros) {
+    return peers && frame ? j39_peers_hear(peers, frame, micros) : J1939_NULL;
+}
+
+int32_t j1939_peers_take(j1939_peers *peers, const j1939_controller *controller, j1939_peer *peer) {
+    if (!peers || !controller || !peer) return J1939_NULL;
+    j1939_handle held = controller->handle;
+    return j39_peers_take(peers, &held, peer);
+}
+
+int32_t j1939_peers_heard_since(const j1939_peers *peers, const j1939_controller *controller, uint64_t name,
+                                uint64_t micros) {
+    if (!peers || !controller) return J1939_NULL;
+    j1939_handle held = controller->handle;
+    return j39_peers_heard_since(peers, &held, name, micros);
+}
+
 int32_t j1939_controller_move_to(j1939_controller *controller, uint8_t address) {
     return controller ? j39_controller_move_to(&controller->handle, address) : J1939_NULL;
 }
@@ -533,20 +559,6 @@ int32_t j1939_controller_renew(j1939_controller *controller, uint8_t priority, u
 
 int32_t j1939_controller_withdraw(j1939_controller *controller, uint64_t token) {
     return controller ? j39_controller_withdraw(&controller->handle, token) : J1939_NULL;
-}
-
-int32_t j1939_controller_broadcast(j1939_controller *controller, uint64_t micros, uint32_t pgn, const uint8_t *payload,
-                                   size_t size, uint64_t *token) {
-    return controller && payload && token
-               ? j39_controller_broadcast(&controller->handle, micros, pgn, payload, size, token)
-               : J1939_NULL;
-}
-
-int32_t j1939_controller_transfer(j1939_controller *controller, uint64_t micros, uint32_t pgn, uint8_t to,
-                                  const uint8_t *payload, size_t size, uint64_t *token) {
-    return controller && payload && token
-               ? j39_controller_transfer(&controller->handle, micros, pgn, to, payload, size, token)
-               : J1939_NULL;
 }
 
 int32_t j1939_controller_ask(j1939_controller *controller, uint64_t micros, uint32_t pgn, uint8_t to, uint64_t *token) {

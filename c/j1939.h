@@ -19,7 +19,7 @@
  * that before J1939_NO_MEMORY. Each other call answers J1939_BAD_VALUE for a frame, a moment, a group of 2^18 and above
  * or an acknowledgment out of its range before J1939_NO_PART, and that before all the rest.
  *
- * Storage. j1939_node, j1939_claims and j1939_broadcast are plain data in your own memory: make them by their .._init.
+ * Storage. j1939_node, j1939_claims, j1939_peers and j1939_broadcast are plain data in your own memory: make them by their .._init.
  * They take no memory besides, need no close, and may be copied. A j1939_controller, a j1939_listener, a
  * j1939_assembler, a j1939_receiver and a j1939_sender are handles: set one to J1939_EMPTY, open it by its .._new,
  * close it by its .._close. What it holds lies on the heap, or, where it is opened by its .._at in place of .._new, in memory
@@ -34,7 +34,7 @@
  *  - the memory of two parameters that are written to does not overlap;
  *  - a handle was set to J1939_EMPTY, or written by the library last; an open one is neither copied nor written by
  *    you, but moved: copied once, and the old one set to J1939_EMPTY, with no call between;
- *  - one call at a time on the same handle, node or claims; none from a signal handler, while one may be running;
+ *  - one call at a time on the same handle, node, claims or peers; none from a signal handler, while one may be running;
  *  - memory that you hand to .._at isn't read, written or moved till the handle is closed;
  *  - malloc, realloc and free may be called by several threads at once, where you call from several; on a board where
  *    a handle is opened by .._at, one call at a time on all handles.
@@ -266,7 +266,7 @@ int32_t j1939_lamps_of(const j1939_message *message, j1939_lamps *lamps);
 #define J1939_MOST_FAULTS 64
 
 /** Writes out what a message of DM1, DM2 or their kin has for these lamps and codes, in their order, by conversion method 0: its
- * length, 8 to 258 bytes. Up to 8 go by j1939_controller_send, more by .._broadcast or .._transfer. J1939_BAD_VALUE for
+ * length, 8 to 258 bytes. J1939_BAD_VALUE for
  * more than J1939_MOST_FAULTS codes, a lamp's state or flash above 3, and a code that can't be told: by another conversion method, of
  * an SPN of 2^19 and above, an FMI above 31, a count above 127, or with SPN and FMI 0, which says that there is none. Only spn,
  * fmi, count and conversion of a code are read. Where count is 0, faults must not be NULL.
@@ -426,7 +426,7 @@ typedef struct {
 #define J1939_RECEIVER_SIZE ((size_t)1984)
 #define J1939_SENDER_SIZE(bytes) (192 + (size_t)(bytes))
 #define J1939_CONTROLLER_SIZE(broadcasts, sessions, transfers) \
-    (6912 + 1888 * (size_t)(broadcasts) + 3744 * (size_t)(sessions) + 1952 * (size_t)(transfers))
+    (7296 + 1888 * (size_t)(broadcasts) + 3744 * (size_t)(sessions) + 1952 * (size_t)(transfers))
 /* clang-format on */
 
 /* ---- a listener (J1939-21, 5.10; J1939-81, 4.2) */
@@ -675,6 +675,42 @@ int32_t j1939_controller_holder(const j1939_controller *controller, uint8_t addr
  * @return 0, 1, J1939_NO_PART */
 int32_t j1939_controller_address_of(const j1939_controller *controller, uint64_t name, uint8_t *address);
 
+/** What a program was told of who is there, and when a frame of each address came last. What stands in it is the library's. */
+typedef struct {
+    J1939_ALIGNED uint64_t names[254];
+    uint64_t moments[254];
+    uint8_t are_told[254];
+    uint8_t are_heard[254];
+} j1939_peers;
+
+/** That an address has another holder than was told last. A NAME that moves leaves one, and comes to another. */
+typedef struct {
+    J1939_ALIGNED uint64_t was; /**< the NAME that was told to hold it, where had_one is not 0 */
+    uint64_t name;              /**< the NAME that holds it, where has_one is not 0 */
+    uint8_t address;            /**< 0 to 253 */
+    uint8_t had_one;            /**< 0 where nobody was told to hold it */
+    uint8_t has_one;            /**< 0 where nobody holds it */
+} j1939_peer;
+
+/** Nothing was told or heard.
+ * @return 0 */
+int32_t j1939_peers_init(j1939_peers *peers);
+
+/** Notes the moment of this call for a frame of any group that is handed to .._hear; its own stamp is not used.
+ * @return 0, J1939_BAD_VALUE */
+int32_t j1939_peers_hear(j1939_peers *peers, const j1939_frame *frame, uint64_t micros);
+
+/** Takes what is new of who holds which address, by the claims that this controller heard and its own that were taken: 1 and the
+ * least address whose holder is not the one told last, or 0. So who comes, moves or leaves is told once; but till this answers 0
+ * a NAME that moves may stand at both.
+ * @return 0, 1, J1939_NO_PART */
+int32_t j1939_peers_take(j1939_peers *peers, const j1939_controller *controller, j1939_peer *peer);
+
+/** Whether a NAME holds an address, by the same claims, whose last noted frame has this moment or a later one: 1, or 0. A frame
+ * counts for who holds its source now.
+ * @return 0, 1, J1939_BAD_VALUE, J1939_NO_PART */
+int32_t j1939_peers_heard_since(const j1939_peers *peers, const j1939_controller *controller, uint64_t name, uint64_t micros);
+
 /** The least address of 128 to 247 that nobody holds, by the same claims: 1 and the address, or 0. A controller that
  * lost its address may move there, if its NAME is arbitrary.
  * @return 0, 1, J1939_NO_PART */
@@ -687,10 +723,18 @@ int32_t j1939_controller_free_address(const j1939_controller *controller, uint8_
  * @return 0, 1, J1939_NO_PART */
 int32_t j1939_controller_move_to(j1939_controller *controller, uint8_t address);
 
-/** Hands in a message of 0 to 8 bytes, of a priority 0 (the highest) to 7, to all (255) or to another's address; a
- * group of PF 240 and above goes to all. 1 and its token: 0, 1, 2 and so on. J1939_BAD_VALUE for more bytes, another
- * priority, its own address, 254, a group that no identifier can have, and the groups of claims (60928),
- * acknowledgments (59392) and packets (60160, 60416). J1939_FULL while 16 are accepted and not told by .._take_ended.
+/** Hands in a message of 0 to 1785 bytes, to all (255) or to another's address: 1 and its token, which no other has of
+ * the first 2^62 of each kind, till it moves. The bytes are copied.
+ *  - Up to 8 go in one frame, of a priority 0 (the highest) to 7; a group of PF 240 and above goes to all. J1939_FULL while 16
+ *    such, requests too, are accepted and not told by .._take_ended.
+ *  - More go in packets, whose frames have priority 7. To all (J1939-21, 5.10.3.5) 50 ms or more from frame to frame, whatever
+ *    priority; J1939_FULL while one is accepted and not told. To an address (J1939-21, 5.10.3) as that clears them, before those
+ *    of a larger priority number, by turns with those of the same; J1939_FULL while one to
+ *    this address is accepted and not told, or as many are as the setup has transfers; also for 4 s after the end of one of this
+ *    group to this address that was not acknowledged, unless it was unsent or refused at once (abort 1, 2), and while twice as many
+ *    pairs as transfers wait so.
+ * J1939_BAD_VALUE for more bytes, another priority, its own address, 254, a group that no identifier can have, and the groups of
+ * claims (60928), acknowledgments (59392) and packets (60160, 60416).
  * @return 0, 1, J1939_BAD_VALUE, J1939_NO_PART, J1939_NO_ADDRESS, J1939_FULL */
 int32_t j1939_controller_send(j1939_controller *controller, uint64_t micros, uint8_t priority, uint32_t pgn, uint8_t to,
                               const uint8_t *payload, size_t size, uint64_t *token);
@@ -703,29 +747,14 @@ int32_t j1939_controller_send(j1939_controller *controller, uint64_t micros, uin
 int32_t j1939_controller_renew(j1939_controller *controller, uint8_t priority, uint32_t pgn, uint8_t to,
                                const uint8_t *payload, size_t size, uint64_t *token);
 
-/** Withdraws a message of .._send that waits to be taken: 1; it is never sent, and told as J1939_ENDED_WITHDRAWN once all
+/** Withdraws a message of one frame that waits to be taken: 1; it is never sent, and told as J1939_ENDED_WITHDRAWN once all
  * before it have ended. 0, where nothing changes, if none waits under this token, for a request, and where the address is
  * lost, by which all that wait end.
  * @return 0, 1, J1939_NO_PART */
 int32_t j1939_controller_withdraw(j1939_controller *controller, uint64_t token);
 
-/** Hands in a message of 9 to 1785 bytes to all (J1939-21, 5.10.3.5), 50 ms or more from frame to frame: 1 and its
- * token, of a count of its own. J1939_BAD_VALUE as of .._send. J1939_FULL while one is accepted and not told. The bytes
- * are copied.
- * @return 0, 1, J1939_BAD_VALUE, J1939_NO_PART, J1939_NO_ADDRESS, J1939_FULL */
-int32_t j1939_controller_broadcast(j1939_controller *controller, uint64_t micros, uint32_t pgn, const uint8_t *payload,
-                                   size_t size, uint64_t *token);
-
-/** The same to another's address (J1939-21, 5.10.3), as that clears it; 255 is none. J1939_FULL while one to this address
- * is accepted and not told, or as many are as the setup has transfers; also for 4 s after the end of one of this group to
- * this address that was not acknowledged, unless it was unsent or refused at once (abort 1, 2), and while twice as many
- * pairs as transfers wait so.
- * @return 0, 1, J1939_BAD_VALUE, J1939_NO_PART, J1939_NO_ADDRESS, J1939_FULL */
-int32_t j1939_controller_transfer(j1939_controller *controller, uint64_t micros, uint32_t pgn, uint8_t to,
-                                  const uint8_t *payload, size_t size, uint64_t *token);
-
-/** Asks an address, or all (255), for a group (J1939-21, 5.4.2), also for claims (60928): 1 and its token, one of the
- * count of .._send. That its frame went out is told as of a message, and how it ended as of a request. What is sent in
+/** Asks an address, or all (255), for a group (J1939-21, 5.4.2), also for claims (60928): 1 and its token. Under it is
+ * told that its frame went out, as of a message of one frame, and how it ended, as of a request. What is sent in
  * answer is received like any message; claims tell .._holder. J1939_FULL while one is accepted and not told, or 16
  * messages are.
  * @return 0, 1, J1939_BAD_VALUE, J1939_NO_PART, J1939_NO_ADDRESS, J1939_FULL */
@@ -784,9 +813,11 @@ int32_t j1939_controller_missed(const j1939_controller *controller, uint64_t *co
 
 /** A request for a group (J1939-21, 5.4.2). */
 typedef struct {
-    uint32_t pgn;        /**< the group that is asked for, of 18 bits */
-    uint8_t source;      /**< the address that asks */
-    uint8_t destination; /**< 255 where all are asked, else the controller's address */
+    J1939_ALIGNED uint64_t name; /**< the NAME that held the source when it was heard first, where is_named is not 0 */
+    uint32_t pgn;                /**< the group that is asked for, of 18 bits */
+    uint8_t source;              /**< the address that asks */
+    uint8_t destination;         /**< 255 where all are asked, else the controller's address */
+    uint8_t is_named;            /**< 0 where no claim tells who asks */
 } j1939_request;
 
 /** Takes a request for a group that the program serves, each once: 1 where there is one, else 0. One that is repeated
@@ -798,7 +829,7 @@ int32_t j1939_controller_take_request(j1939_controller *controller, j1939_reques
 /** How a request is acknowledged (J1939-21, 5.4.4). */
 enum j1939_acknowledgment { J1939_ACK = 0, J1939_NACK = 1, J1939_DENIED = 2, J1939_BUSY = 3 };
 
-/** Acknowledges a request to its address. J1939_BAD_VALUE for one to all, which is never acknowledged, another answer,
+/** Acknowledges a request to its address, whoever asked. J1939_BAD_VALUE for one to all, which is never acknowledged, another answer,
  * a group of 2^18 and above, or a moment of 10^16 and above. J1939_FULL while 16 are due.
  * @return 0, J1939_BAD_VALUE, J1939_NO_PART, J1939_NO_ADDRESS, J1939_FULL */
 int32_t j1939_controller_acknowledge(j1939_controller *controller, uint64_t micros, const j1939_request *request,

@@ -200,9 +200,7 @@ static int next_frame(station *s, uint64_t due, j1939_frame *frame) {
 /* Hands in the VIN, to all or to one controller; whether it was accepted. */
 static int send_vin(station *s, uint8_t to, uint64_t now, uint64_t *token) {
     const uint8_t *vin = (const uint8_t *)s->vin;
-    return accepted(to == EVERYBODY
-                        ? j1939_controller_broadcast(&s->controller, now, VIN_GROUP, vin, VIN_SIZE, token)
-                        : j1939_controller_transfer(&s->controller, now, VIN_GROUP, to, vin, VIN_SIZE, token));
+    return accepted(j1939_controller_send(&s->controller, now, 6, VIN_GROUP, to, vin, VIN_SIZE, token));
 }
 
 /* Hands in an engine speed, in thousandths of an rpm, in place of one that still waits. */
@@ -217,8 +215,7 @@ static void send_speed(station *s, int64_t speed, uint64_t now) {
     accepted(j1939_controller_send(&s->controller, now, 3, EEC1, EVERYBODY, data, sizeof data, &token));
 }
 
-/* Hands in its active fault codes: all lamps are off, and there is none. Two and more take more than eight bytes, and
- * go by j1939_controller_broadcast. */
+/* Hands in its active fault codes: all lamps are off, and there is none. */
 static int send_faults(station *s, uint64_t now) {
     static const uint8_t none[8] = {0x00, 0xFF, 0, 0, 0, 0, 0xFF, 0xFF};
     uint64_t token;

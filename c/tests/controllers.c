@@ -213,7 +213,7 @@ static void sends_single(int self) {
     fill(bytes, size, J1939_RECEIVED_FRAME, self, node->serial);
     if (j1939_controller_send(&node->controller, now, (uint8_t)(next() % 8), SINGLES, 255, bytes, size, &it.token) != 1)
         return;
-    EXPECT(it.token == node->single_tokens++);
+    EXPECT(it.token == 4 * node->single_tokens++);
     node->singles[node->last_single++ % 16] = it;
     node->accepted++;
     node->serial++;
@@ -229,8 +229,8 @@ static void broadcasts(int self) {
     size_t size = 9 + next() % 60;
     open_message it = {.accepted = now, .serial = node->serial, .packets = (unsigned)(size + 6) / 7};
     fill(bytes, size, J1939_RECEIVED_BROADCAST, self, node->serial);
-    if (j1939_controller_broadcast(&node->controller, now, BROADCASTS, bytes, size, &it.token) != 1) return;
-    EXPECT(!node->has_broadcast && it.token == node->broadcast_tokens++);
+    if (j1939_controller_send(&node->controller, now, 7, BROADCASTS, 255, bytes, size, &it.token) != 1) return;
+    EXPECT(!node->has_broadcast && it.token == 4 * node->broadcast_tokens++ + 1);
     node->broadcast = it;
     node->has_broadcast = 1;
     node->accepted++;
@@ -248,8 +248,8 @@ static void transfers(int self) {
         return;
     uint32_t group = group_of(J1939_RECEIVED_TRANSFER, it.to == 0x30 ? THIRD : self);
     fill(bytes, size, J1939_RECEIVED_TRANSFER, self, node->serial);
-    if (j1939_controller_transfer(&node->controller, now, group, it.to, bytes, size, &it.token) != 1) return;
-    EXPECT(!node->has_transfer && it.token == node->transfer_tokens++);
+    if (j1939_controller_send(&node->controller, now, 7, group, it.to, bytes, size, &it.token) != 1) return;
+    EXPECT(!node->has_transfer && it.token == 4 * node->transfer_tokens++ + 2);
     node->transfer = it;
     node->has_transfer = 1;
     node->accepted++;
@@ -262,7 +262,7 @@ static void asks(int self) {
     open_message it = {.accepted = now};
     if (j1939_controller_address_of(&node->controller, nodes[!self].name, &it.to) != 1) return;
     if (j1939_controller_ask(&node->controller, now, SERVED, it.to, &it.token) != 1) return;
-    EXPECT(!node->has_ask && it.token == node->single_tokens++);
+    EXPECT(!node->has_ask && it.token == 4 * node->single_tokens++);
     node->ask = it;
     node->has_ask = 1;
     node->singles[node->last_single++ % 16] = it;

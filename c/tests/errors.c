@@ -17,6 +17,8 @@ static const uint64_t LATE = 10000000000000000u;
 static j1939_message message;
 static j1939_frame out;
 static const uint8_t payload[1786];
+static j1939_peers peers;
+static j1939_peer peer;
 
 static void null_pointers(void) {
     static j1939_broadcast broadcast;
@@ -58,6 +60,10 @@ static void null_pointers(void) {
     EXPECT(j1939_claims_init(NULL) == J1939_NULL);
     EXPECT(j1939_claims_note(&claims, NULL, changed) == J1939_NULL);
     EXPECT(j1939_claims_holder(&claims, 0, NULL) == J1939_NULL);
+    EXPECT(j1939_peers_init(NULL) == J1939_NULL);
+    EXPECT(j1939_peers_hear(&peers, NULL, 0) == J1939_NULL);
+    EXPECT(j1939_peers_take(&peers, &controller, NULL) == J1939_NULL);
+    EXPECT(j1939_peers_heard_since(&peers, NULL, 1, 0) == J1939_NULL);
     EXPECT(j1939_node_init(NULL, 0, 0) == J1939_NULL);
     EXPECT(j1939_node_start(&node, 0, NULL) == J1939_NULL);
     EXPECT(j1939_node_tick(NULL, 0) == J1939_NULL);
@@ -101,8 +107,8 @@ static void null_pointers(void) {
     EXPECT(j1939_controller_address_of(NULL, 0, &byte) == J1939_NULL);
     EXPECT(j1939_controller_send(&controller, 0, 6, 0, 255, NULL, 0, &name) == J1939_NULL);
     EXPECT(j1939_controller_send(&controller, 0, 6, 0, 255, payload, 0, NULL) == J1939_NULL);
-    EXPECT(j1939_controller_broadcast(&controller, 0, 0, NULL, 9, &name) == J1939_NULL);
-    EXPECT(j1939_controller_transfer(&controller, 0, 0, 0, payload, 9, NULL) == J1939_NULL);
+    EXPECT(j1939_controller_send(&controller, 0, 7, 0, 255, NULL, 9, &name) == J1939_NULL);
+    EXPECT(j1939_controller_send(&controller, 0, 7, 0, 0, payload, 9, NULL) == J1939_NULL);
     EXPECT(j1939_controller_ask(&controller, 0, 0, 0, NULL) == J1939_NULL);
     EXPECT(j1939_controller_take_ended(&controller, NULL) == J1939_NULL);
     EXPECT(j1939_controller_take_received(&controller, &message, NULL) == J1939_NULL);
@@ -535,7 +541,7 @@ static void broadcasts(void) {
 
 /* Each call on a handle that holds no controller. */
 static void no_controller(j1939_controller *controller) {
-    j1939_request request = {65260, 3, 0x80};
+    j1939_request request = {.pgn = 65260, .source = 3, .destination = 0x80};
     j1939_ended ended;
     uint64_t number;
     uint8_t byte;
@@ -553,8 +559,8 @@ static void no_controller(j1939_controller *controller) {
     EXPECT(j1939_controller_holder(controller, 0x80, &number) == J1939_NO_PART);
     EXPECT(j1939_controller_address_of(controller, 1, &byte) == J1939_NO_PART);
     EXPECT(j1939_controller_send(controller, 0, 6, 65262, 255, payload, 8, &number) == J1939_NO_PART);
-    EXPECT(j1939_controller_broadcast(controller, 0, 65260, payload, 9, &number) == J1939_NO_PART);
-    EXPECT(j1939_controller_transfer(controller, 0, 65260, 3, payload, 9, &number) == J1939_NO_PART);
+    EXPECT(j1939_controller_send(controller, 0, 7, 65260, 255, payload, 9, &number) == J1939_NO_PART);
+    EXPECT(j1939_controller_send(controller, 0, 7, 65260, 3, payload, 9, &number) == J1939_NO_PART);
     EXPECT(j1939_controller_ask(controller, 0, 65260, 3, &number) == J1939_NO_PART);
     EXPECT(j1939_controller_take_ended(controller, &ended) == J1939_NO_PART);
     EXPECT(j1939_controller_take_received(controller, &message, &byte) == J1939_NO_PART);
@@ -569,7 +575,8 @@ static void no_controller(j1939_controller *controller) {
 /* Numbers out of range, whatever the handle holds. */
 static void controller_in_range(j1939_controller *controller) {
     j1939_frame late = {.micros = LATE}, long_one = {.len = 9};
-    j1939_request request = {65260, 3, 0x80}, no_group = {1u << 18, 3, 0x80};
+    j1939_request request = {.pgn = 65260, .source = 3, .destination = 0x80};
+    j1939_request no_group = {.pgn = 1u << 18, .source = 3, .destination = 0x80};
     uint64_t token = 9;
     EXPECT(j1939_controller_hear(controller, &late, late.micros) == J1939_BAD_VALUE);
     EXPECT(j1939_controller_hear(controller, &long_one, long_one.micros) == J1939_BAD_VALUE);
@@ -581,10 +588,10 @@ static void controller_in_range(j1939_controller *controller) {
     EXPECT(j1939_controller_claims_request(controller, LATE, 255, &out) == J1939_BAD_VALUE);
     EXPECT(j1939_controller_send(controller, LATE, 6, 65262, 255, payload, 8, &token) == J1939_BAD_VALUE);
     EXPECT(j1939_controller_send(controller, 0, 6, 1u << 18, 255, payload, 8, &token) == J1939_BAD_VALUE);
-    EXPECT(j1939_controller_broadcast(controller, LATE, 65260, payload, 9, &token) == J1939_BAD_VALUE);
-    EXPECT(j1939_controller_broadcast(controller, 0, 1u << 18, payload, 9, &token) == J1939_BAD_VALUE);
-    EXPECT(j1939_controller_transfer(controller, LATE, 65260, 3, payload, 9, &token) == J1939_BAD_VALUE);
-    EXPECT(j1939_controller_transfer(controller, 0, 1u << 18, 3, payload, 9, &token) == J1939_BAD_VALUE);
+    EXPECT(j1939_controller_send(controller, LATE, 7, 65260, 255, payload, 9, &token) == J1939_BAD_VALUE);
+    EXPECT(j1939_controller_send(controller, 0, 7, 1u << 18, 255, payload, 9, &token) == J1939_BAD_VALUE);
+    EXPECT(j1939_controller_send(controller, LATE, 7, 65260, 3, payload, 9, &token) == J1939_BAD_VALUE);
+    EXPECT(j1939_controller_send(controller, 0, 7, 1u << 18, 3, payload, 9, &token) == J1939_BAD_VALUE);
     EXPECT(j1939_controller_ask(controller, LATE, 65260, 3, &token) == J1939_BAD_VALUE);
     EXPECT(j1939_controller_ask(controller, 0, 1u << 18, 3, &token) == J1939_BAD_VALUE);
     EXPECT(j1939_controller_acknowledge(controller, LATE, &request, J1939_ACK) == J1939_BAD_VALUE);
@@ -616,8 +623,8 @@ static void claim_of(j1939_controller *controller) {
     EXPECT(out.micros == 1000000 && out.len == 3 && !memcmp(out.data, "\x00\xEE", 3));
     EXPECT(j1939_controller_claims_request(controller, 1000000, 254, &out) == 0);
     EXPECT(j1939_controller_next_due(controller, &due) == 1 && due == 1250000);
-    EXPECT(j1939_controller_broadcast(controller, 1249999, 65260, payload, 9, &token) == J1939_NO_ADDRESS);
-    EXPECT(j1939_controller_broadcast(controller, 1249999, 65260, payload, 8, &token) == J1939_NO_ADDRESS);
+    EXPECT(j1939_controller_send(controller, 1249999, 7, 65260, 255, payload, 9, &token) == J1939_NO_ADDRESS);
+    EXPECT(j1939_controller_send(controller, 1249999, 7, 65260, 255, payload, 8, &token) == J1939_NO_ADDRESS);
     EXPECT(j1939_controller_holder(controller, 0x80, &token) == 1 && token == 1);
     EXPECT(j1939_controller_holder(controller, 0x81, &token) == 0 && token == 1);
     EXPECT(j1939_controller_address_of(controller, 1, &own) == 1 && own == 0x80);
@@ -629,35 +636,38 @@ static void claim_of(j1939_controller *controller) {
     EXPECT(j1939_controller_next_tick(controller, &due) == 0);
 }
 
+/* The tokens of what goes in one frame, to all and to an address in packets. */
+#define FRAME(k) (4 * (k))
+#define BROADCAST(k) (4 * (k) + 1)
+#define TRANSFER(k) (4 * (k) + 2)
+
 /* What is sent: sixteen messages of one frame at most, and a broadcast of nine bytes takes three. */
 static void messages_of(j1939_controller *controller) {
     j1939_ended ended;
     uint64_t token = 9;
     EXPECT(j1939_controller_send(controller, 1300000, 8, 65262, 255, payload, 8, &token) == J1939_BAD_VALUE);
-    EXPECT(j1939_controller_send(controller, 1300000, 6, 65262, 255, payload, 9, &token) == J1939_BAD_VALUE);
     EXPECT(j1939_controller_send(controller, 1300000, 6, 60928, 255, payload, 8, &token) == J1939_BAD_VALUE);
     EXPECT(j1939_controller_send(controller, 1300000, 6, 0xEF00, 0x80, payload, 8, &token) == J1939_BAD_VALUE);
     for (uint64_t k = 0; k < 16; k++)
-        EXPECT(j1939_controller_send(controller, 1300000, 6, 0xEF00, 3, payload, k % 9, &token) == 1 && token == k);
+        EXPECT(j1939_controller_send(controller, 1300000, 6, 0xEF00, 3, payload, k % 9, &token) == 1 && token == FRAME(k));
     EXPECT(j1939_controller_send(controller, 1300000, 6, 65262, 255, payload, 8, &token) == J1939_FULL);
     EXPECT(j1939_controller_send(controller, 1300000, 8, 65262, 255, payload, 8, &token) == J1939_BAD_VALUE);
-    EXPECT(j1939_controller_ask(controller, 1300000, 65260, 3, &token) == J1939_FULL && token == 15);
+    EXPECT(j1939_controller_ask(controller, 1300000, 65260, 3, &token) == J1939_FULL && token == FRAME(15));
     EXPECT(j1939_controller_take_ended(controller, &ended) == 0);
     for (uint64_t k = 0; k < 16; k++) {
         EXPECT(taken(controller, 1300000) == 0x18EF0380 && out.len == k % 9);
         EXPECT(j1939_controller_take_ended(controller, &ended) == J1939_ENDED_MESSAGE);
-        EXPECT(ended.token == k && ended.ending == J1939_ENDED_DONE && ended.detail == 0);
+        EXPECT(ended.token == FRAME(k) && ended.ending == J1939_ENDED_DONE && ended.detail == 0);
     }
-    EXPECT(j1939_controller_broadcast(controller, 1300000, 65260, payload, 8, &token) == J1939_BAD_VALUE);
-    EXPECT(j1939_controller_broadcast(controller, 1300000, 65260, payload, 1786, &token) == J1939_BAD_VALUE);
-    EXPECT(j1939_controller_broadcast(controller, 1300000, 65260, payload, 9, &token) == 1 && token == 0);
-    EXPECT(j1939_controller_broadcast(controller, 1300000, 65260, payload, 9, &token) == J1939_FULL);
+    EXPECT(j1939_controller_send(controller, 1300000, 7, 65260, 255, payload, 1786, &token) == J1939_BAD_VALUE);
+    EXPECT(j1939_controller_send(controller, 1300000, 7, 65260, 255, payload, 9, &token) == 1 && token == BROADCAST(0));
+    EXPECT(j1939_controller_send(controller, 1300000, 7, 65260, 255, payload, 9, &token) == J1939_FULL);
     for (uint64_t k = 0; k < 3; k++) {
         EXPECT(taken(controller, 1300000 + k * 50000) == (k ? 0x1CEBFF80 : 0x1CECFF80));
         EXPECT(taken(controller, 1349999 + k * 50000) == 0);
     }
     EXPECT(j1939_controller_take_ended(controller, &ended) == J1939_ENDED_BROADCAST);
-    EXPECT(ended.token == 0 && ended.ending == J1939_ENDED_DONE && j1939_controller_take_ended(controller, &ended) == 0);
+    EXPECT(ended.token == BROADCAST(0) && ended.ending == J1939_ENDED_DONE && j1939_controller_take_ended(controller, &ended) == 0);
 }
 
 /* A transfer to nobody fails for 3, and rests; a request that nobody answers ends, and one is refused. */
@@ -666,26 +676,26 @@ static void ends_of(j1939_controller *controller) {
         .micros = 4500000, .id = 0x18E8FF03, .len = 8, .data = {2, 0xFF, 0xFF, 0xFF, 0x80, 0xEC, 0xFE, 0}};
     j1939_ended ended;
     uint64_t token, due;
-    EXPECT(j1939_controller_transfer(controller, 1500000, 65260, 254, payload, 9, &token) == J1939_BAD_VALUE);
-    EXPECT(j1939_controller_transfer(controller, 1500000, 65260, 3, payload, 9, &token) == 1 && token == 0);
-    EXPECT(j1939_controller_transfer(controller, 1500000, 65260, 4, payload, 9, &token) == J1939_FULL);
+    EXPECT(j1939_controller_send(controller, 1500000, 7, 65260, 254, payload, 9, &token) == J1939_BAD_VALUE);
+    EXPECT(j1939_controller_send(controller, 1500000, 7, 65260, 3, payload, 9, &token) == 1 && token == TRANSFER(0));
+    EXPECT(j1939_controller_send(controller, 1500000, 7, 65260, 4, payload, 9, &token) == J1939_FULL);
     EXPECT(taken(controller, 1500000) == 0x1CEC0380 && out.data[0] == 0x10);
     EXPECT(j1939_controller_next_due(controller, &due) == 1 && due == 2750001);
     EXPECT(taken(controller, 2750001) == 0x1CEC0380 && out.data[0] == 0xFF && out.data[1] == 3);
     EXPECT(j1939_controller_take_ended(controller, &ended) == J1939_ENDED_TRANSFER);
-    EXPECT(ended.token == 0 && ended.ending == J1939_ENDED_FAILED && ended.detail == 3);
-    EXPECT(j1939_controller_transfer(controller, 2750001, 65260, 3, payload, 9, &token) == J1939_FULL); /* it rests */
-    EXPECT(j1939_controller_ask(controller, 3000000, 65260, 3, &token) == 1 && token == 16);
+    EXPECT(ended.token == TRANSFER(0) && ended.ending == J1939_ENDED_FAILED && ended.detail == 3);
+    EXPECT(j1939_controller_send(controller, 2750001, 7, 65260, 3, payload, 9, &token) == J1939_FULL); /* it rests */
+    EXPECT(j1939_controller_ask(controller, 3000000, 65260, 3, &token) == 1 && token == FRAME(16));
     EXPECT(taken(controller, 3000000) == 0x18EA0380 && out.len == 3 && out.data[0] == 0xEC);
-    EXPECT(j1939_controller_take_ended(controller, &ended) == J1939_ENDED_MESSAGE && ended.token == 16);
+    EXPECT(j1939_controller_take_ended(controller, &ended) == J1939_ENDED_MESSAGE && ended.token == FRAME(16));
     EXPECT(j1939_controller_take_ended(controller, &ended) == 0);
     EXPECT(j1939_controller_tick(controller, 4250000) == 0);
-    EXPECT(j1939_controller_take_ended(controller, &ended) == J1939_ENDED_REQUEST && ended.token == 16);
+    EXPECT(j1939_controller_take_ended(controller, &ended) == J1939_ENDED_REQUEST && ended.token == FRAME(16));
     EXPECT(ended.ending == J1939_ENDED_TIMED_OUT && ended.detail == 0);
-    EXPECT(j1939_controller_ask(controller, 4500000, 65260, 3, &token) == 1 && token == 17);
+    EXPECT(j1939_controller_ask(controller, 4500000, 65260, 3, &token) == 1 && token == FRAME(17));
     EXPECT(taken(controller, 4500000) == 0x18EA0380 && j1939_controller_hear(controller, &refusal, refusal.micros) == 0);
-    EXPECT(j1939_controller_take_ended(controller, &ended) == J1939_ENDED_MESSAGE && ended.token == 17);
-    EXPECT(j1939_controller_take_ended(controller, &ended) == J1939_ENDED_REQUEST && ended.token == 17);
+    EXPECT(j1939_controller_take_ended(controller, &ended) == J1939_ENDED_MESSAGE && ended.token == FRAME(17));
+    EXPECT(j1939_controller_take_ended(controller, &ended) == J1939_ENDED_REQUEST && ended.token == FRAME(17));
     EXPECT(ended.ending == J1939_ENDED_ACKNOWLEDGED && ended.detail == J1939_DENIED);
 }
 
@@ -700,19 +710,20 @@ static void again_of(j1939_controller *controller) {
     EXPECT(j1939_controller_take_news(controller) == J1939_NEWS_DOUBLED + 0x33 && !j1939_controller_take_news(controller));
     EXPECT(j1939_controller_address_of(controller, 1, &own) == 1 && own == 0x80);
     EXPECT(j1939_controller_renew(controller, 6, 65262, 255, payload, 8, &token) == 0 && token == 9);
-    EXPECT(j1939_controller_send(controller, 5000000, 6, 65262, 255, payload, 8, &token) == 1 && token == 18);
+    EXPECT(j1939_controller_send(controller, 5000000, 6, 65262, 255, payload, 8, &token) == 1 && token == FRAME(18));
     EXPECT(j1939_controller_again(controller, 5000000) == 0 && taken(controller, 5000000) == 0x18EEFF80);
     EXPECT(j1939_controller_renew(controller, 5, 65262, 255, newest, 8, &token) == 0);
-    EXPECT(j1939_controller_renew(controller, 6, 65262, 255, newest, 8, &token) == 1 && token == 18);
+    EXPECT(j1939_controller_renew(controller, 6, 65262, 255, newest, 8, &token) == 1 && token == FRAME(18));
     EXPECT(taken(controller, 5249999) == 0 && taken(controller, 5250000) == 0x18FEEE80);
     EXPECT(!memcmp(out.data, newest, 8) && taken(controller, 5250000) == 0);
-    EXPECT(j1939_controller_take_ended(controller, &ended) == J1939_ENDED_MESSAGE && ended.token == 18);
+    EXPECT(j1939_controller_take_ended(controller, &ended) == J1939_ENDED_MESSAGE && ended.token == FRAME(18));
     EXPECT(ended.ending == J1939_ENDED_DONE && j1939_controller_take_ended(controller, &ended) == 0);
-    EXPECT(j1939_controller_withdraw(controller, 18) == 0 && j1939_controller_withdraw(controller, 19) == 0);
-    EXPECT(j1939_controller_send(controller, 5250000, 6, 65262, 255, payload, 8, &token) == 1 && token == 19);
-    EXPECT(j1939_controller_withdraw(controller, 19) == 1 && j1939_controller_withdraw(controller, 19) == 0);
+    EXPECT(j1939_controller_withdraw(controller, FRAME(18)) == 0 && j1939_controller_withdraw(controller, FRAME(19)) == 0);
+    EXPECT(j1939_controller_send(controller, 5250000, 6, 65262, 255, payload, 8, &token) == 1 && token == FRAME(19));
+    EXPECT(j1939_controller_withdraw(controller, BROADCAST(19)) == 0 && j1939_controller_withdraw(controller, FRAME(19)) == 1 &&
+           j1939_controller_withdraw(controller, FRAME(19)) == 0);
     EXPECT(taken(controller, 5250000) == 0 && j1939_controller_take_ended(controller, &ended) == J1939_ENDED_MESSAGE);
-    EXPECT(ended.token == 19 && ended.ending == J1939_ENDED_WITHDRAWN && j1939_controller_take_ended(controller, &ended) == 0);
+    EXPECT(ended.token == FRAME(19) && ended.ending == J1939_ENDED_WITHDRAWN && j1939_controller_take_ended(controller, &ended) == 0);
 }
 
 /* What it hears: requests, and messages of one frame. */
@@ -725,7 +736,7 @@ static void hearing_of(j1939_controller *controller) {
     while (j1939_controller_take_received(controller, &message, &priority)) continue; /* the refusal */
     EXPECT(j1939_controller_hear(controller, &asks, asks.micros) == 0);
     EXPECT(j1939_controller_take_request(controller, &request) == 1);
-    EXPECT(request.pgn == 65260 && request.source == 0x81 && request.destination == 0x80);
+    EXPECT(request.pgn == 65260 && request.source == 0x81 && request.destination == 0x80 && !request.is_named);
     EXPECT(j1939_controller_take_request(controller, &request) == 0);
     EXPECT(j1939_controller_acknowledge(controller, 7000000, &request, J1939_BUSY) == 0);
     EXPECT(taken(controller, 7000000) == 0x18E8FF80 && out.data[0] == 3 && out.data[4] == 0x81);
@@ -788,10 +799,14 @@ static void packets_of(j1939_controller *controller) {
 static void senders_of(j1939_controller *controller) {
     j1939_frame single = {.micros = 7600000, .id = 0x18FEEE82, .len = 8};
     j1939_frame claim = {.micros = 7600000, .id = 0x18EEFF82, .len = 8, .data = {9, 0, 0, 0, 0, 0, 0, 0x80}};
-    j1939_frame next, rts = bam;
+    j1939_frame asks = {.micros = 7600000, .id = 0x18EA8082, .len = 3, .data = {0xEC, 0xFE, 0x00}}, next, rts = bam;
+    j1939_request request;
     uint8_t priority;
     EXPECT(j1939_controller_hear(controller, &single, 7600000) == 0);
     EXPECT(j1939_controller_hear(controller, &claim, 7600000) == 0);
+    EXPECT(j1939_controller_hear(controller, &asks, 7600000) == 0);
+    EXPECT(j1939_controller_take_request(controller, &request) == 1 && request.is_named);
+    EXPECT(request.name == 0x8000000000000009 && request.source == 0x82);
     EXPECT(j1939_controller_hear(controller, &single, 7600000) == 0);
     rts.id = 0x1CECFF82;
     EXPECT(j1939_controller_hear(controller, &rts, 7600000) == 0);
@@ -834,20 +849,20 @@ static void loss_of(j1939_controller *controller) {
     EXPECT(j1939_controller_hear(controller, &other, other.micros) == 0);
     EXPECT(j1939_controller_take_news(controller) == J1939_NEWS_ANOTHER);
     EXPECT(j1939_controller_take_received(controller, &message, &priority) == J1939_RECEIVED_FRAME);
-    EXPECT(j1939_controller_send(controller, 7800000, 6, 65262, 255, payload, 8, &token) == 1 && token == 20);
-    EXPECT(j1939_controller_broadcast(controller, 7800000, 65260, payload, 9, &token) == 1 && token == 1);
-    EXPECT(j1939_controller_transfer(controller, 7800000, 65260, 3, payload, 9, &token) == 1 && token == 1);
-    EXPECT(j1939_controller_ask(controller, 7800000, 65260, 3, &token) == 1 && token == 21);
+    EXPECT(j1939_controller_send(controller, 7800000, 6, 65262, 255, payload, 8, &token) == 1 && token == FRAME(20));
+    EXPECT(j1939_controller_send(controller, 7800000, 7, 65260, 255, payload, 9, &token) == 1 && token == BROADCAST(1));
+    EXPECT(j1939_controller_send(controller, 7800000, 7, 65260, 3, payload, 9, &token) == 1 && token == TRANSFER(1));
+    EXPECT(j1939_controller_ask(controller, 7800000, 65260, 3, &token) == 1 && token == FRAME(21));
     EXPECT(j1939_controller_hear(controller, &claim, claim.micros) == 0);
     EXPECT(j1939_controller_status(controller, &own) == J1939_CANNOT && own == 254);
     EXPECT(j1939_controller_take_news(controller) == J1939_NEWS_LOST && !j1939_controller_take_news(controller));
-    EXPECT(j1939_controller_take_ended(controller, &ended) == J1939_ENDED_MESSAGE && ended.token == 20);
+    EXPECT(j1939_controller_take_ended(controller, &ended) == J1939_ENDED_MESSAGE && ended.token == FRAME(20));
     EXPECT(ended.ending == J1939_ENDED_WITHDRAWN);
-    EXPECT(j1939_controller_take_ended(controller, &ended) == J1939_ENDED_MESSAGE && ended.token == 21);
-    EXPECT(j1939_controller_take_ended(controller, &ended) == J1939_ENDED_BROADCAST && ended.token == 1);
-    EXPECT(j1939_controller_take_ended(controller, &ended) == J1939_ENDED_TRANSFER && ended.token == 1);
+    EXPECT(j1939_controller_take_ended(controller, &ended) == J1939_ENDED_MESSAGE && ended.token == FRAME(21));
+    EXPECT(j1939_controller_take_ended(controller, &ended) == J1939_ENDED_BROADCAST && ended.token == BROADCAST(1));
+    EXPECT(j1939_controller_take_ended(controller, &ended) == J1939_ENDED_TRANSFER && ended.token == TRANSFER(1));
     EXPECT(ended.ending == J1939_ENDED_WITHDRAWN);
-    EXPECT(j1939_controller_take_ended(controller, &ended) == J1939_ENDED_REQUEST && ended.token == 21);
+    EXPECT(j1939_controller_take_ended(controller, &ended) == J1939_ENDED_REQUEST && ended.token == FRAME(21));
     EXPECT(ended.ending == J1939_ENDED_WITHDRAWN && j1939_controller_take_ended(controller, &ended) == 0);
     EXPECT(taken(controller, 7905999) == 0); /* 10 times 0.6 ms */
     EXPECT(taken(controller, 7906000) == 0x18EEFFFE && taken(controller, 7906000) == 0);
@@ -932,7 +947,43 @@ static void const_handles(void) {
     EXPECT(j1939_controller_holder(&controller, 0, &number) == J1939_NO_PART);
     EXPECT(j1939_controller_address_of(&controller, 1, &byte) == J1939_NO_PART);
     EXPECT(j1939_controller_free_address(&controller, &byte) == J1939_NO_PART);
+    EXPECT(j1939_peers_take(&peers, &controller, &peer) == J1939_NO_PART);
+    EXPECT(j1939_peers_heard_since(&peers, &controller, 1, 0) == J1939_NO_PART);
     EXPECT(j1939_controller_missed(&controller, &number) == J1939_NO_PART);
+}
+
+/* What is told next: at this address this NAME was told last, and that one holds it now; 0 for nobody. */
+static int is_new(const j1939_controller *controller, uint8_t address, uint64_t was, uint64_t name) {
+    return j1939_peers_take(&peers, controller, &peer) == 1 && peer.address == address && peer.was == was &&
+           peer.had_one == (was != 0) && peer.name == name && peer.has_one == (name != 0);
+}
+
+/* One comes, another takes its address, and it moves; each is told once. Who is silent is known by NAME. */
+static void peers_of(void) {
+    j1939_setup setup = {.name = 1, .address = 0x80};
+    j1939_controller controller = J1939_EMPTY;
+    j1939_frame frame = {.id = 0x18EEFF90, .len = 8, .data = {9}}, single = {.id = 0x18FEEE91, .len = 8}, bad = {.len = 9};
+    EXPECT(j1939_peers_init(&peers) == 0 && j1939_controller_new(&controller, &setup) == 0);
+    EXPECT(j1939_peers_hear(&peers, &bad, 0) == J1939_BAD_VALUE && j1939_peers_hear(&peers, &single, LATE) == J1939_BAD_VALUE);
+    EXPECT(j1939_peers_take(&peers, &controller, &peer) == 0 && j1939_peers_heard_since(&peers, &controller, 9, 0) == 0);
+    EXPECT(j1939_controller_hear(&controller, &frame, 1000) == 0 && j1939_peers_hear(&peers, &frame, 1000) == 0);
+    EXPECT(is_new(&controller, 0x90, 0, 9) && j1939_peers_take(&peers, &controller, &peer) == 0);
+    EXPECT(j1939_peers_heard_since(&peers, &controller, 9, 1000) == 1);
+    EXPECT(j1939_peers_heard_since(&peers, &controller, 9, 1001) == 0);
+    EXPECT(j1939_peers_heard_since(&peers, &controller, 9, LATE) == J1939_BAD_VALUE);
+    EXPECT(j1939_peers_heard_since(&peers, &controller, 8, 0) == 0);
+    frame.data[0] = 8;
+    EXPECT(j1939_controller_hear(&controller, &frame, 2000) == 0);
+    frame.data[0] = 9, frame.id = 0x18EEFF91;
+    EXPECT(j1939_controller_hear(&controller, &frame, 3000) == 0);
+    EXPECT(is_new(&controller, 0x90, 9, 8) && is_new(&controller, 0x91, 0, 9));
+    EXPECT(j1939_peers_take(&peers, &controller, &peer) == 0 && j1939_peers_heard_since(&peers, &controller, 9, 0) == 0);
+    EXPECT(j1939_peers_hear(&peers, &single, 4000) == 0 && j1939_peers_heard_since(&peers, &controller, 9, 4000) == 1);
+    EXPECT(j1939_controller_take_frame(&controller, 5000, &out) == 1 && is_new(&controller, 0x80, 0, 1));
+    frame.id = 0x18EEFFFE;
+    EXPECT(j1939_controller_hear(&controller, &frame, 6000) == 0);
+    EXPECT(is_new(&controller, 0x91, 9, 0) && j1939_peers_take(&peers, &controller, &peer) == 0);
+    EXPECT(j1939_controller_close(&controller) == 0);
 }
 
 /* Of two groups it subscribes one. */
@@ -971,6 +1022,7 @@ int main(void) {
     transfers();
     broadcasts();
     controllers();
+    peers_of();
     subscribed();
     const_handles();
     return 0;

@@ -126,8 +126,8 @@ static void wakes_each(uint64_t period) {
         if (!claim_end && holds(&first)) {
             claim_end = now;
             EXPECT(claimed && now - claimed >= CLAIM && now - claimed < CLAIM + period);
-            EXPECT(j1939_controller_broadcast(&first, now, DM1, bytes, sizeof bytes, &token) == 1);
-            EXPECT(j1939_controller_transfer(&first, now, 0xEF00, 0x20, bytes, sizeof bytes, &token) == 1);
+            EXPECT(j1939_controller_send(&first, now, 7, DM1, 255, bytes, sizeof bytes, &token) == 1);
+            EXPECT(j1939_controller_send(&first, now, 7, 0xEF00, 0x20, bytes, sizeof bytes, &token) == 1);
             begun = now;
         }
         takes_due(period);
@@ -157,7 +157,7 @@ static void rests(int moves, int is_beside_third) {
     now = 1000000;
     claims(&first, 1, OWN);
     claims(&second, 2, OTHER);
-    EXPECT(j1939_controller_transfer(&first, now, 0xEF00, OTHER, (const uint8_t *)texts[0], 30, &token) == 1);
+    EXPECT(j1939_controller_send(&first, now, 7, 0xEF00, OTHER, (const uint8_t *)texts[0], 30, &token) == 1);
     for (unsigned turn = 0; turn < 1200; turn++, now += 10000) {
         if (is_beside_third) {
             frame = noise();
@@ -191,7 +191,7 @@ static void rests(int moves, int is_beside_third) {
             if (moves) EXPECT(j1939_controller_move_to(&first, OWN) == 1);
         }
         if (again != 1 && (moves ? told : again) &&
-            j1939_controller_transfer(&first, now, 0xEF00, OTHER, (const uint8_t *)texts[1], strlen(texts[1]),
+            j1939_controller_send(&first, now, 7, 0xEF00, OTHER, (const uint8_t *)texts[1], strlen(texts[1]),
                                       &token) == 1) {
             EXPECT(!moves || now - told >= 4000000 - 10000);
             again = 1;
@@ -242,7 +242,7 @@ static void floods(int for_claims) {
         frame = noise();
         hears(&first, &frame);
         j1939_controller_send(&first, now, 3, 61444, 255, bytes, 8, &token);
-        if (j1939_controller_broadcast(&first, now, DM1, bytes, sizeof bytes, &token) == 1) last = now;
+        if (j1939_controller_send(&first, now, 7, DM1, 255, bytes, sizeof bytes, &token) == 1) last = now;
         EXPECT(j1939_controller_take_frame(&first, now, &frame) == 1);
         answers = group_in(&frame) == 0xEE || group_in(&frame) == 0xE8 ? answers + 1 : 0;
         EXPECT(answers <= 2);

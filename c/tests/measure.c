@@ -72,10 +72,10 @@ static void controller_send(void) {
 static void controller_frame(void) { EXPECT(j1939_controller_take_frame(&controller, 5, &out) >= 0); }
 static uint64_t token;
 static void controller_broadcast(void) {
-    EXPECT(j1939_controller_broadcast(&controller, 300000, 65260, payload, sizeof payload, &token) == 1);
+    EXPECT(j1939_controller_send(&controller, 300000, 7, 65260, 255, payload, sizeof payload, &token) == 1);
 }
 static void controller_transfer(void) {
-    EXPECT(j1939_controller_transfer(&controller, 300000, 61184, 9, payload, sizeof payload, &token) == 1);
+    EXPECT(j1939_controller_send(&controller, 300000, 7, 61184, 9, payload, sizeof payload, &token) == 1);
 }
 static const j1939_frame rts = {.micros = 1, .id = 0x1CEC0307, .len = 8, .data = {0x10, 20, 0, 3, 0xFF, 0, 0xEF, 0}};
 static void controller_hear_rts(void) { EXPECT(j1939_controller_hear(&controller, &rts, 300000) == 0); }
@@ -179,8 +179,8 @@ int main(void) {
     measure("  heard, taken", controller_hear_other, MANY);
     measure("  sent, taken", controller_send, MANY);
     measure("  RTS heard", controller_hear_rts, 0);
-    measure("controller_broadcast", controller_broadcast, 0);
-    measure("controller_transfer", controller_transfer, 0);
+    measure("  to all", controller_broadcast, 0);
+    measure("  to one", controller_transfer, 0);
     measure("  taken", controller_take, 0);
     measure("listener_close", close_listener, 0);
     measure("assembler_close", close_assembler, 0);

@@ -240,8 +240,8 @@ static void call_controller(j1939_controller *controller, uint8_t address) {
     case 4: told(j1939_controller_ask(controller, now, pgn, address, &token), &token); break;
     case 5: answered(j1939_controller_move_to(controller, address), J1939_NO_PART, 1); break;
     case 6: told(j1939_controller_send(controller, now, priority, 61444, 255, payload, size % 10, &token), &token); break;
-    case 7: told(j1939_controller_broadcast(controller, now, 65260, payload, size, &token), &token); break;
-    case 8: told(j1939_controller_transfer(controller, now, 65260, address, payload, size, &token), &token); break;
+    case 7: told(j1939_controller_send(controller, now, 7, 65260, 255, payload, size, &token), &token); break;
+    case 8: told(j1939_controller_send(controller, now, 7, 65260, address, payload, size, &token), &token); break;
     case 9: empty_controller(controller); break;
     case 10:
         if (next() % 16 == 0) answered(j1939_controller_again(controller, now), J1939_NO_PART, 0);

@@ -12,8 +12,8 @@ int main(int count, char **words) {
     j1939_controller_hear(&controller, &frame, now);
     j1939_controller_take_received(&controller, &message, &priority);
     j1939_controller_send(&controller, now, 6, 61444, 255, message.data, 8, &token);
-    j1939_controller_broadcast(&controller, now, 65260, message.data, 17, &token);
-    j1939_controller_transfer(&controller, now, 65260, 4, message.data, 17, &token);
+    j1939_controller_send(&controller, now, 7, 65260, 255, message.data, 17, &token);
+    j1939_controller_send(&controller, now, 7, 65260, 4, message.data, 17, &token);
     j1939_controller_tick(&controller, now);
     return j1939_controller_take_frame(&controller, now, &frame);
 }

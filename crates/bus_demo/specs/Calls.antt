@@ -48,7 +48,7 @@ Takes micros frame old new = (taken : Controller) × Continues (At micros (TakeF
 abbrev pub is_handing : ℕ → Call → Bool
 is_handing micros (At now (Send draft answer)) = now == micros
 is_handing micros (At now (Broadcast group bytes answer)) = now == micros
-is_handing micros (At now (Transfer group to bytes answer)) = now == micros
+is_handing micros (At now (Transfer priority group to bytes answer)) = now == micros
 is_handing micros call = false
 
 -- the address that a controller holds

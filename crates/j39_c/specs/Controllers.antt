@@ -1,5 +1,5 @@
 -- What a controller answers to C, by the histories of its calls.
-use Rattle.std.specs.Prelude.{◌≡◌, ◌<◌, ◌≤◌, ◌^◌, ◌+◌, min, ◌∷◌, ◌++◌, [], ℕ, zero, suc, ℤ, pos, negsuc, ◌==◌, nat_eq, nat_lt, Bool, true, false, Option, Some, None, IfSome, IsSomeAnd, Result, Ok, Err, List, length, if◌then◌else◌, slice_get}
+use Rattle.std.specs.Prelude.{◌≡◌, ◌<◌, ◌≤◌, ◌^◌, ◌+◌, ◌%◌, ◌/◌, min, ◌∷◌, ◌++◌, [], ℕ, zero, suc, ℤ, pos, negsuc, ◌==◌, nat_eq, nat_lt, Bool, true, false, Option, Some, None, IfSome, IsSomeAnd, Result, Ok, Err, List, length, if◌then◌else◌, slice_get}
 use Rattle.std.specs.Option.{option_map}
 use Rattle.std.specs.List.{list_all}
 use Rattle.j39_address.specs.Claim.{claims_of}
@@ -7,12 +7,12 @@ use Rattle.j39_address.specs.Holder.{IsHolderAfter}
 use Rattle.j39_address.specs.Node.{IsLeastFree, NoneFree}
 use Rattle.j39_frame.specs.Address.{IsAddress}
 use Rattle.j39_transport.specs.Message.{MessageRecord}
-use Rattle.j39_node.specs.History.{Act, Asked, Call, Message, Who, got, nothing, missed, told_claims}
-use Rattle.j39_node.specs.History.Call.{At, ReleaseBroadcast, ReleaseTransfer, TakeAskEnded, TakeBroadcastEnded, TakeEnded, TakeReceived, TakeTransferEnded, Withdraw}
+use Rattle.j39_node.specs.History.{Act, Asked, Call, Draft, Message, Who, got, handed, nothing, missed, told_claims}
+use Rattle.j39_node.specs.History.Call.{At, ReleaseBroadcast, ReleaseTransfer, TakeReceived, Withdraw}
 use Rattle.j39_node.specs.Hearing.{broadcast_senders, unheard, waiting}
 use Rattle.j39_node.specs.Is.{Is}
 use Rattle.j39_node.specs.Moving.{HasMoved, IsSettled}
-use Rattle.j39_node.specs.Reception.{reception, senders, transfer_sender}
+use Rattle.j39_node.specs.Reception.{askers, reception, senders, transfer_sender}
 use Rattle.j39_node.specs.declared.controller.Controller.{Controller}
 use Rattle.j39_node.specs.declared.kinds.Answer.{Answer}
 use Rattle.j39_node.specs.declared.kinds.Answer.TheVariants.{Ack, Nack, Denied, Busy}
@@ -26,9 +26,14 @@ use Rattle.j39_node.specs.declared.kinds.Refused.{Refused}
 use Rattle.j39_node.specs.declared.kinds.Refused.TheVariants.{NoAddress, BadValue, Full}
 use Rattle.j39_transfers.specs.declared.kinds.Ending.{Ending as TransferEnding}
 use Rattle.j39_transfers.specs.declared.kinds.Ending.TheVariants as transfer
+use Rattle.j39_application.specs.Sending.{coded, ended_by, sent_as, way_of, way_told}
+use Rattle.j39_application.specs.declared.sending.End.{End}
+use Rattle.j39_application.specs.declared.sending.End.TheVariants as end
+use Rattle.j39_application.specs.declared.sending.Token.{Token}
+use Rattle.j39_application.specs.declared.sending.Way.{Way}
 use Rattle.j39_c.specs.declared.controller.PlainSetup.{PlainSetup}
 use Rattle.j39_c.specs.Codes.{bad_value, full, no_address, no_part}
-use Rattle.j39_c.specs.Messages.{hearing_in}
+use Rattle.j39_c.specs.Messages.{hearing_in, marked}
 use Rattle.j39_c.specs.Parts.{controller_in}
 use Rattle.j39_c.specs.declared.handed_out.PlainEnded.{PlainEnded}
 use Rattle.j39_c.specs.declared.handed_out.PlainRequest.{PlainRequest}
@@ -115,10 +120,11 @@ Moves address (pos (suc n)) old new =
     (w : Who) (H : List Call) → Is w H old → IsAddress address × IsSettled w H × HasMoved w H address new
 Moves address (negsuc n) old new = ⊥
 
--- a message is withdrawn: 1, or 0
+-- a message is withdrawn: 1, or 0, also where the token is of none that goes in one frame
 abbrev pub Withdraws : ℕ → ℤ → Controller → Controller → Type 0
-Withdraws token (pos zero) old new = Continues (Withdraw token false) old new
-Withdraws token (pos (suc n)) old new = Continues (Withdraw token true) old new
+Withdraws token (pos zero) old new =
+    (token % 4 ≡ 0 → Continues (Withdraw (token / 4) false) old new) × ((token % 4 ≡ 0 → ⊥) → new ≡ old)
+Withdraws token (pos (suc n)) old new = (token % 4 ≡ 0) × Continues (Withdraw (token / 4) true) old new
 Withdraws token (negsuc n) old new = ⊥
 
 -- ---- messages are handed in
@@ -134,10 +140,16 @@ IsRefusal NoAddress code = code ≡ no_address
 IsRefusal BadValue code = code ≡ bad_value
 IsRefusal Full code = code ≡ full
 
--- a message is accepted, and this is its token
-abbrev pub IsAccepted : ℤ → ℕ → Result ℕ Refused → Type 0
-IsAccepted code token (Ok t) = (code ≡ pos 1) × (token ≡ t)
-IsAccepted code token (Err why) = IsRefusal why code
+-- what goes this way is accepted, and this is its token
+abbrev pub IsAccepted : Way → ℤ → ℕ → Result ℕ Refused → Type 0
+IsAccepted way code token (Ok number) = (code ≡ pos 1) × (token ≡ coded way number)
+IsAccepted way code token (Err why) = IsRefusal why code
+
+-- a message is handed in so
+pub record HandsIn (micros : ℕ) (d : Draft) (code : ℤ) (token : ℕ) (old new : Controller) : Type 0 where
+  pub answer : Result ℕ Refused
+  pub accepted : IsAccepted (way_of d) code token answer
+  pub goes : Continues (At micros (sent_as d answer)) old new
 
 -- an acknowledgment is accepted
 abbrev pub IsTaken : ℤ → Result (Unit {0}) Refused → Type 0
@@ -161,6 +173,12 @@ pub record Offers {A : Type 0} (fits : Type 0) (old : Option Part) (code : ℤ) 
 -- the request that is written out
 abbrev pub request_in : PlainRequest → Asked
 request_in r = record { source = r.source; destination = r.destination; group = r.pgn }
+
+-- the NAME that it tells: of who held its source when it was heard
+abbrev pub IsAsked : ℤ → PlainRequest → Who → List Call → Type 0
+IsAsked (pos zero) x w H = Unit {0}
+IsAsked (pos (suc n)) x w H = slice_get (askers w H) (length (handed H)) ≡ Some (marked x.is_named x.name)
+IsAsked (negsuc n) x w H = Unit {0}
 
 -- how a request is acknowledged, by its number (J1939-21, 5.4.4)
 abbrev pub answer_in : ℕ → Option Answer
@@ -193,20 +211,23 @@ ask_ending_in n detail =
     else if nat_eq n 5 then option_map request.Acknowledged (answer_in detail)
     else if nat_eq n 6 then plain detail request.TimedOut else None
 
-abbrev pub with_token : {E : Type 0} → PlainEnded → Option E → Option (ℕ × E)
-with_token x ending = option_map (λ e. (x.token, e)) ending
+-- what ended, by its kind: 1 a message of one frame, 2 a broadcast, 3 a transfer, 4 a request
+abbrev pub end_in : ℤ → PlainEnded → Option End
+end_in (pos zero) x = None
+end_in (pos (suc zero)) x = option_map end.Frame (ending_in x.ending x.detail)
+end_in (pos (suc (suc zero))) x = option_map end.Broadcast (ending_in x.ending x.detail)
+end_in (pos (suc (suc (suc zero)))) x = option_map end.Transfer (transfer_ending_in x.ending x.detail)
+end_in (pos (suc (suc (suc (suc n))))) x = option_map end.Request (ask_ending_in x.ending x.detail)
+end_in (negsuc n) x = None
 
--- 0 none of the four kinds; 1 a message of one frame, 2 a broadcast, 3 a transfer, 4 a request
-abbrev pub ended_by : ℤ → PlainEnded → List Call
-ended_by (pos zero) x = TakeAskEnded None ∷ TakeTransferEnded None ∷ TakeBroadcastEnded None ∷ TakeEnded None ∷ []
-ended_by (pos (suc zero)) x = TakeEnded (with_token x (ending_in x.ending x.detail)) ∷ []
-ended_by (pos (suc (suc zero))) x = TakeBroadcastEnded (with_token x (ending_in x.ending x.detail)) ∷ TakeEnded None ∷ []
-ended_by (pos (suc (suc (suc zero)))) x =
-    TakeTransferEnded (with_token x (transfer_ending_in x.ending x.detail)) ∷ TakeBroadcastEnded None ∷ TakeEnded None ∷ []
-ended_by (pos (suc (suc (suc (suc n))))) x =
-    TakeAskEnded (with_token x (ask_ending_in x.ending x.detail)) ∷ TakeTransferEnded None ∷ TakeBroadcastEnded None
-    ∷ TakeEnded None ∷ []
-ended_by (negsuc n) x = []
+-- what was told is in x, with its token
+abbrev pub IsEnded : ℤ → PlainEnded → Option (Token × End) → Type 0
+IsEnded code x None = code ≡ pos 0
+IsEnded code x (Some (token, ending)) = (end_in code x ≡ Some ending) × (x.token ≡ coded (way_told ending) token.number)
+
+-- the controller tells this
+abbrev pub Ends : ℤ → PlainEnded → Controller → Controller → Type 0
+Ends code x old new = (told : Option (Token × End)) × IsEnded code x told × Goes (ended_by told) old new
 
 -- ---- what was received, by what a call answered and wrote out
 
@@ -255,6 +276,7 @@ Waited (pos (suc (suc zero))) m w H =
     (slice_get (reception w H).waits 0 ≡ Some (long_in m)) × ((hearing_in m).destination ≡ Some w.address)
 Waited (pos (suc (suc (suc n)))) m w H =
     (slice_get (reception w H).waits 0 ≡ None) × (slice_get (waiting w H) 0 ≡ Some (long_in m))
+    × ((hearing_in m).destination ≡ None)
 Waited (negsuc n) m w H = Unit {0}
 
 -- ---- news: 1 the address was lost, 2 another sends from it, 3 messages were missed, 4 and more that another of its NAME claims an

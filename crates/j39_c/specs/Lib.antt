@@ -13,5 +13,6 @@ pub mod Messages
 pub mod Nodes
 pub mod OwnTables
 pub mod Parts
+pub mod Peers
 pub mod Readings
 pub mod Units

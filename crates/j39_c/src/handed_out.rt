@@ -1,17 +1,21 @@
 //! What calls write out, as C has it.
-ghost use Rattle.std.specs.Prelude.{◌≡◌, ◌↔◌, ◌<◌, ◌^◌, None, Some, IfSome, IsSome, pos, ◌∷◌, []};
+ghost use Rattle.std.specs.Prelude.{◌≡◌, ◌↔◌, ◌<◌, ◌^◌, None, Some, IfSome, IsSome, IfOk, pos, ◌∷◌, [], ℕ};
+ghost use Rattle.j39_application.specs.Sending.{coded, numbers, way_told};
+ghost use Rattle.j39_application.specs.declared.sending.Way.{Way};
+ghost use Rattle.j39_application.specs.declared.sending.Way.TheVariants as way;
 ghost use Rattle.std.specs.Option.{option_map};
 ghost use Rattle.j39_address.specs.Name.{name_raw};
 ghost use Rattle.j39_frame.specs.Stamp.{stamp_micros};
 ghost use Rattle.j39_node.specs.Is.{received_by, request_by};
 ghost use Rattle.j39_c.specs.Calls.{Answers, Fills, Puts};
 ghost use Rattle.j39_c.specs.Codes.{IsDone, bad_value, full, no_address, told};
-ghost use Rattle.j39_c.specs.Controllers.{IsAccepted, IsRefusal, IsTaken, answer_in, ask_ending_in, ending_in, request_in, short_in, transfer_ending_in};
-ghost use Rattle.j39_c.specs.Messages.{hearing_in};
+ghost use Rattle.j39_c.specs.Controllers.{IsAccepted, IsRefusal, IsTaken, IsEnded, answer_in, ask_ending_in, ending_in, request_in, short_in, transfer_ending_in};
+ghost use Rattle.j39_c.specs.Messages.{hearing_in, marked};
 
 use crate::message::WholeMessage;
 use crate::refusal::Refusal;
 use j39_address::Name;
+use j39_application::{End, Token, Way};
 use j39_frame::{Pgn, Stamp};
 use j39_node::{Answer, AskEnding, Ending, Received, Refused, Request, TransferEnding};
 use j39_transport::Message;
@@ -20,12 +24,16 @@ use j39_transport::Message;
 #[repr(C)]
 #[derive(Clone, Copy, Debug)]
 pub struct PlainRequest {
+    /// The NAME that held the source when it was heard first, where `is_named` isn't 0.
+    pub name: u64,
     /// The group that is asked for.
     pub pgn: u32,
     /// The address that asks.
     pub source: u8,
     /// 255 where all are asked, else the controller's address.
     pub destination: u8,
+    /// 0 where nobody held it.
+    pub is_named: u8,
 }
 
 /// How what was accepted ended, `j1939_ended` of the header.
@@ -70,18 +78,40 @@ pub(crate) fn put_moment(moment: Option<Stamp>, micros: &mut u64) -> i32
 }
 
 /// Writes out the token of what was accepted: 1, or why it wasn't.
-pub(crate) fn put_token(answer: Result<u64, Refused>, token: &mut u64) -> i32
-    ensures told { IsAccepted result token.new answer }
+pub(crate) fn put_sent(answer: Result<Token, Refused>, token: &mut u64) -> i32
+    ensures told { (w : Way) → IfOk answer (λ t. t.way ≡ w) → IsAccepted w result token.new (numbers answer) }
     ensures answers { Answers 1 (bad_value ∷ no_address ∷ full ∷ []) result }
     ensures fills { Fills (pos 1 ∷ []) result (token.new ≡ token.old) }
 {
     match answer {
         Ok(accepted) => {
-            *token = accepted;
+            *token = accepted.code();
             1
         }
         Err(why) => refused(why),
     }
+}
+
+/// Writes out the token of a request that was accepted: 1, or why it wasn't.
+pub(crate) fn put_token(answer: Result<u64, Refused>, token: &mut u64) -> i32
+    ensures told { IsAccepted way.Frame result token.new answer }
+    ensures answers { Answers 1 (bad_value ∷ no_address ∷ full ∷ []) result }
+    ensures fills { Fills (pos 1 ∷ []) result (token.new ≡ token.old) }
+{
+    match answer {
+        Ok(accepted) => {
+            *token = frame_code(accepted);
+            1
+        }
+        Err(why) => refused(why),
+    }
+}
+
+/// The token of what goes in one frame, as C has it.
+pub(crate) fn frame_code(number: u64) -> u64
+    ensures { result ≡ coded way.Frame number }
+{
+    Token::new(Way::Frame, number).code()
 }
 
 /// Whether an acknowledgment was accepted: 0, or why it wasn't.
@@ -125,16 +155,20 @@ pub(crate) fn put_received(message: &Received, out: &mut WholeMessage, priority:
 
 /// Writes out a request: 1, or 0 where there is none.
 pub(crate) fn put_request(request: Option<Request>, out: &mut PlainRequest) -> i32
-    ensures { Puts (option_map request_by request) 1 (pos 1 ∷ []) result (told result (request_in out.new))
+    ensures puts { Puts (option_map request_by request) 1 (pos 1 ∷ []) result (told result (request_in out.new))
         (out.new ≡ out.old) }
+    ensures asker { IfSome request (λ r. marked out.new.is_named out.new.name ≡ option_map name_raw r.name) }
 {
     let Some(request) = request else {
         return 0;
     };
+    let (name, is_named) = marked_name(request.name);
     *out = PlainRequest {
+        name,
         pgn: request.group.raw(),
         source: request.source,
         destination: request.destination,
+        is_named,
     };
     1
 }
@@ -147,6 +181,7 @@ pub(crate) fn request_of(request: &PlainRequest) -> Option<Request>
     let group = Pgn::new(request.pgn)?;
     Some(Request {
         source: request.source,
+        name: None,
         destination: request.destination,
         group,
     })
@@ -178,55 +213,71 @@ fn number_of(answer: Answer) -> u8
 }
 
 impl PlainEnded {
-    /// How a message ended.
-    pub(crate) fn of_message(token: u64, ending: Ending) -> PlainEnded
-        ensures token { result.token ≡ token }
-        ensures ending { ending_in result.ending result.detail ≡ Some ending }
+    /// The kind of what ended (1 a message of one frame, 2 a broadcast, 3 a transfer, 4 a request), and how it did.
+    pub(crate) fn of(token: Token, end: End) -> (i32, PlainEnded)
+        requires way { token.way ≡ way_told end }
+        ensures ended { IsEnded result.0 result.1 (Some (token, end)) }
+        ensures answers { Answers 4 [] result.0 }
+        ensures fills { Fills (pos 1 ∷ pos 2 ∷ pos 3 ∷ pos 4 ∷ []) result.0 ⊥ }
     {
-        let ending = match ending {
-            Ending::Done => 1,
-            Ending::Withdrawn => 2,
+        let (kind, (ending, detail)) = match end {
+            End::Frame(ending) => (1, message_ending(ending)),
+            End::Broadcast(ending) => (2, message_ending(ending)),
+            End::Transfer(ending) => (3, transfer_ending(ending)),
+            End::Request(ending) => (4, request_ending(ending)),
         };
-        PlainEnded {
-            token,
-            ending,
-            detail: 0,
-        }
+        let token = token.code();
+        (
+            kind,
+            PlainEnded {
+                token,
+                ending,
+                detail,
+            },
+        )
     }
+}
 
-    /// How a transfer ended.
-    pub(crate) fn of_transfer(token: u64, ending: TransferEnding) -> PlainEnded
-        ensures token { result.token ≡ token }
-        ensures ending { transfer_ending_in result.ending result.detail ≡ Some ending }
-    {
-        let (ending, detail) = match ending {
-            TransferEnding::Done => (1, 0),
-            TransferEnding::Withdrawn => (2, 0),
-            TransferEnding::Failed(reason) => (3, reason),
-            TransferEnding::Gone => (4, 0),
-        };
-        PlainEnded {
-            token,
-            ending,
-            detail,
-        }
+/// How a message ended, as C has it.
+fn message_ending(ending: Ending) -> (u8, u8)
+    ensures { ending_in result.0 result.1 ≡ Some ending }
+{
+    match ending {
+        Ending::Done => (1, 0),
+        Ending::Withdrawn => (2, 0),
     }
+}
 
-    /// How a request ended.
-    pub(crate) fn of_request(token: u64, ending: AskEnding) -> PlainEnded
-        ensures token { result.token ≡ token }
-        ensures ending { ask_ending_in result.ending result.detail ≡ Some ending }
-    {
-        let (ending, detail) = match ending {
-            AskEnding::Answered => (1, 0),
-            AskEnding::Withdrawn => (2, 0),
-            AskEnding::Acknowledged(answer) => (5, number_of(answer)),
-            AskEnding::TimedOut => (6, 0),
-        };
-        PlainEnded {
-            token,
-            ending,
-            detail,
-        }
+/// How a transfer ended, as C has it.
+fn transfer_ending(ending: TransferEnding) -> (u8, u8)
+    ensures { transfer_ending_in result.0 result.1 ≡ Some ending }
+{
+    match ending {
+        TransferEnding::Done => (1, 0),
+        TransferEnding::Withdrawn => (2, 0),
+        TransferEnding::Failed(reason) => (3, reason),
+        TransferEnding::Gone => (4, 0),
+    }
+}
+
+/// How a request ended, as C has it.
+fn request_ending(ending: AskEnding) -> (u8, u8)
+    ensures { ask_ending_in result.0 result.1 ≡ Some ending }
+{
+    match ending {
+        AskEnding::Answered => (1, 0),
+        AskEnding::Withdrawn => (2, 0),
+        AskEnding::Acknowledged(answer) => (5, number_of(answer)),
+        AskEnding::TimedOut => (6, 0),
+    }
+}
+
+/// A NAME, and whether there is one.
+pub(crate) fn marked_name(name: Option<Name>) -> (u64, u8)
+    ensures { marked result.1 result.0 ≡ option_map name_raw name }
+{
+    match name {
+        Some(name) => (name.raw(), 1),
+        None => (0, 0),
     }
 }

@@ -19,6 +19,7 @@ mod names;
 mod node;
 mod offering;
 mod part;
+mod peers;
 mod reading;
 mod receiver;
 mod refusal;
@@ -56,9 +57,10 @@ pub use node::{
     j39_node_commanded, j39_node_init, j39_node_on, j39_node_start, j39_node_status, j39_node_tick,
 };
 pub use offering::{
-    j39_controller_acknowledge, j39_controller_ask, j39_controller_broadcast, j39_controller_renew,
-    j39_controller_send, j39_controller_transfer, j39_controller_withdraw,
+    j39_controller_acknowledge, j39_controller_ask, j39_controller_renew, j39_controller_send,
+    j39_controller_withdraw,
 };
+pub use peers::{PlainPeer, j39_peers_hear, j39_peers_heard_since, j39_peers_init, j39_peers_take};
 pub use reading::{PlainReading, j39_raw_of, j39_reading, j39_reading_text};
 pub use receiver::{j39_receiver_busy, j39_receiver_new, j39_receiver_on, j39_receiver_tick};
 pub use report_line::j39_report_line;

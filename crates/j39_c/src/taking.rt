@@ -1,5 +1,5 @@
 //! What a controller hands out.
-ghost use Rattle.std.specs.Prelude.{◌≡◌, ◌≤◌, ◌∷◌, [], ⊤, pos, IfSome, true, false, length, take, slice_get};
+ghost use Rattle.std.specs.Prelude.{◌≡◌, ◌≤◌, ◌∷◌, [], ⊤, pos, IfSome, None, true, false, length, take, slice_get};
 ghost use Rattle.std.specs.Option.{option_map};
 ghost use Rattle.j39_address.specs.Name.{name_raw};
 ghost use Rattle.j39_frame.specs.Stamp.{stamp_micros};
@@ -9,7 +9,7 @@ ghost use Rattle.j39_node.specs.History.Call.{ReleaseBroadcast, ReleaseTransfer,
 ghost use Rattle.j39_node.specs.Reception.{reception, transfer_sender};
 ghost use Rattle.j39_c.specs.Calls.{Answers, Asks, Fills, Never};
 ghost use Rattle.j39_c.specs.Codes.{IsDone, IsRefused, no_part, told};
-ghost use Rattle.j39_c.specs.Controllers.{Continues, Goes, IsNamed, Says, Waited, ended_by, long_if, long_in, received_by, request_in};
+ghost use Rattle.j39_c.specs.Controllers.{Continues, IsAsked, Goes, IsNamed, Says, Waited, long_if, long_in, received_by, request_in, Ends};
 ghost use Rattle.j39_c.specs.Messages.{hearing_in};
 ghost use Rattle.j39_c.specs.Parts.{controller_in};
 
@@ -19,6 +19,7 @@ use crate::message::WholeMessage;
 use crate::part::ask;
 use crate::refusal::Refusal;
 use j39_address::Name;
+use j39_application::take_ended;
 use j39_node::Controller;
 use j39_transport::Message;
 use std::alloc::Global;
@@ -32,7 +33,7 @@ pub extern "C" fn j39_controller_take_ended(
     out: &mut PlainEnded,
 ) -> i32
     ensures asks { Asks controller_in ⊤ controller.old.part result controller.new.part
-        (λ old new. Goes (ended_by result out.new) old new) Never }
+        (λ old new. Ends result out.new old new) Never }
     ensures refused { IsRefused result → controller.new.part ≡ controller.old.part }
     ensures answers { Answers 4 (no_part ∷ []) result }
     ensures fills { Fills (pos 1 ∷ pos 2 ∷ pos 3 ∷ pos 4 ∷ []) result (out.new ≡ out.old) }
@@ -62,8 +63,8 @@ pub extern "C" fn j39_controller_take_received(
     ask!(alloc, controller, Controlling(held) => put_message(held, out, priority))
 }
 
-/// Takes a request for a group that the program serves, each once: 1 where there is one, which is in `out`, else 0. -2
-/// where the handle holds no controller.
+/// Takes a request for a group that the program serves, each once: 1 where there is one, which is in `out`, with the NAME that held its
+/// source when it was heard, else 0. -2 where the handle holds no controller.
 #[unsafe(no_mangle)]
 pub extern "C" fn j39_controller_take_request(
     alloc: Global,
@@ -71,38 +72,38 @@ pub extern "C" fn j39_controller_take_request(
     out: &mut PlainRequest,
 ) -> i32
     ensures asks { Asks controller_in ⊤ controller.old.part result controller.new.part
-        (λ old new. Continues (TakeRequest (told result (request_in out.new))) old new) Never }
+        (λ old new. Continues (TakeRequest (told result (request_in out.new))) old new × Says (IsAsked result out.new) old) Never }
     ensures refused { IsRefused result → controller.new.part ≡ controller.old.part }
     ensures answers { Answers 1 (no_part ∷ []) result }
     ensures fills { Fills (pos 1 ∷ []) result (out.new ≡ out.old) }
 {
-    ask!(alloc, controller, Controlling(held) => put_request(held.take_request(), out))
+    ask!(alloc, controller, Controlling(held) => put_asked(held, out))
 }
 
-/// Takes how something ended, of the first kind of which something did.
+/// Takes a request: 1, or 0 where there is none.
+fn put_asked(controller: &mut Controller, out: &mut PlainRequest) -> i32
+    ensures done { IsDone result }
+    ensures takes { Continues (TakeRequest (told result (request_in out.new))) controller.old controller.new }
+    ensures asker { Says (IsAsked result out.new) controller.old }
+    ensures answers { Answers 1 [] result }
+    ensures fills { Fills (pos 1 ∷ []) result (out.new ≡ out.old) }
+{
+    put_request(controller.take_request(), out)
+}
+
+/// Takes how something ended.
 fn put_ended(controller: &mut Controller, out: &mut PlainEnded) -> i32
     ensures done { IsDone result }
-    ensures goes { Goes (ended_by result out.new) controller.old controller.new }
+    ensures goes { Ends result out.new controller.old controller.new }
     ensures answers { Answers 4 [] result }
     ensures fills { Fills (pos 1 ∷ pos 2 ∷ pos 3 ∷ pos 4 ∷ []) result (out.new ≡ out.old) }
 {
-    if let Some((token, ending)) = controller.take_ended() {
-        *out = PlainEnded::of_message(token, ending);
-        return 1;
-    }
-    if let Some((token, ending)) = controller.take_broadcast_ended() {
-        *out = PlainEnded::of_message(token, ending);
-        return 2;
-    }
-    if let Some((token, ending)) = controller.take_transfer_ended() {
-        *out = PlainEnded::of_transfer(token, ending);
-        return 3;
-    }
-    if let Some((token, ending)) = controller.take_ask_ended() {
-        *out = PlainEnded::of_request(token, ending);
-        return 4;
-    }
-    0
+    let Some((token, end)) = take_ended(controller) else {
+        return 0;
+    };
+    let (kind, ended) = PlainEnded::of(token, end);
+    *out = ended;
+    kind
 }
 
 /// Takes a message, of the first kind of which there is one.
@@ -150,6 +151,7 @@ fn put_broadcast(controller: &mut Controller, out: &mut WholeMessage) -> bool
     ensures waits { Says (λ w H. slice_get (waiting w H) 0 ≡ long_if result out.new) controller.old }
     ensures goes { result ≡ true → Continues (ReleaseBroadcast true) controller.old controller.new }
     ensures named { result ≡ true → Says (λ w H. IfSome (slice_get (broadcast_senders w H) 0) (λ name. (hearing_in out.new).name ≡ name)) controller.old }
+    ensures to_all { result ≡ true → (hearing_in out.new).destination ≡ None }
     ensures kept { result ≡ false → (controller.new ≡ controller.old) × (out.new ≡ out.old) }
 {
     let Some(message) = controller.received_broadcast() else {
@@ -165,6 +167,7 @@ fn put_long(message: &Message<'_>, sender: Option<Name>, out: &mut WholeMessage)
     requires { length message.now.payload.now ≤ 1785 }
     ensures value { long_in out.new ≡ (stamp_micros message.now.stamp, message_shown message.now) }
     ensures named { (hearing_in out.new).name ≡ option_map name_raw sender }
+    ensures to_all { (hearing_in out.new).destination ≡ None }
 {
     out.put_message(message, sender);
 }

@@ -92,7 +92,7 @@ IsAcked w to m earlier call = ⊥
 arises : (w : Who) (a : ℕ) → Arises w a (λ x. x.sender.state ≡ sending.Done) (λ m. IsAcked w a m)
 unfolding new_sender
 arises w a = record {
-  begins_not = λ H now group bytes q. (let z : sending.Idle ≡ sending.Done = q in absurd (cc));
+  begins_not = λ H now priority group bytes q. (let z : sending.Idle ≡ sending.Done = q in absurd (cc));
   by_hearing = λ H when f x right e.
       heard_sender (λ (s : SenderRecord). s.state ≡ sending.Done → (x.sender.state ≡ sending.Done) ⊎ IsAcked w a x.sender.message H (At when (Hear f)))
       (is_lost (address_after w (At when (Hear f) ∷ H))) (holder w (At when (Hear f) ∷ H)) f (clock_at w H when) x (λ q. inl q)
@@ -251,18 +251,18 @@ all_at P (x ∷ xs) ys y h = all_at P xs ys y (All-tail P x (xs ++ y ∷ ys) h)
 -- the message that was accepted
 transfers_behind : (w : Who) (later H : List Call) → (rest : List (ℕ × MessageRecord)) × (transfers w (later ++ H) ≡ transfers w H ++ rest)
 transfers_behind w [] H = ([], sym (append-nil (transfers w H)))
-transfers_behind w (At now (Transfer group to bytes (Ok k)) ∷ later) H =
+transfers_behind w (At now (Transfer priority group to bytes (Ok k)) ∷ later) H =
     let r = transfers_behind w later H in
     let x = (to, broadcast_from w group bytes) ∷ [] in
     (r.0 ++ x, ap (λ v. v ++ x) r.1 ∙ append_assoc (transfers w H) r.0 x)
 transfers_behind w (call ∷ later) H = transfers_behind w later H
 
-accepted_is : (w : Who) (later earlier : List Call) (at group to k : ℕ) (bytes : List ℕ) → AreAnswered w (later ++ At at (Transfer group to bytes (Ok k)) ∷ earlier)
-    → slice_get (transfers w (later ++ At at (Transfer group to bytes (Ok k)) ∷ earlier)) k ≡ Some (to, broadcast_from w group bytes)
-accepted_is w later earlier at group to k bytes right =
-    let a = answered_from w later (At at (Transfer group to bytes (Ok k)) ∷ earlier) right in
-    let n : k ≡ length (transfers w earlier) = (transfer_accepts w earlier at group to k bytes a.1).3 in
-    let r = transfers_behind w later (At at (Transfer group to bytes (Ok k)) ∷ earlier) in
+accepted_is : (w : Who) (later earlier : List Call) (at priority group to k : ℕ) (bytes : List ℕ) → AreAnswered w (later ++ At at (Transfer priority group to bytes (Ok k)) ∷ earlier)
+    → slice_get (transfers w (later ++ At at (Transfer priority group to bytes (Ok k)) ∷ earlier)) k ≡ Some (to, broadcast_from w group bytes)
+accepted_is w later earlier at priority group to k bytes right =
+    let a = answered_from w later (At at (Transfer priority group to bytes (Ok k)) ∷ earlier) right in
+    let n : k ≡ length (transfers w earlier) = (transfer_accepts w earlier at priority group to k bytes a.1).3 in
+    let r = transfers_behind w later (At at (Transfer priority group to bytes (Ok k)) ∷ earlier) in
     let x : ℕ × MessageRecord = (to, broadcast_from w group bytes) in
     ap (λ (T : List (ℕ × MessageRecord)). slice_get T k) r.1 ∙ get_front (transfers w earlier ++ x ∷ []) r.0 k x (ap (slice_get (transfers w earlier ++ x ∷ [])) n ∙ get_last (transfers w earlier) x)
 
@@ -390,7 +390,7 @@ front_only d j L before after x e o =
 
 -- ---- all of it
 
-module _ (delay now i j k at group : ℕ) (bytes : List ℕ) (L : List Passed) (members : List Member) (m n : Member) (later earlier : List Call)
+module _ (delay now i j k at priority group : ℕ) (bytes : List ℕ) (L : List Passed) (members : List Member) (m n : Member) (later earlier : List Call)
     (net : Net delay now (IsNoRequest m.who.address n.who.address) L members) (hm : IsMember members i m) (hn : IsMember members j n) where
   abbrev a : ℕ
   a = m.who.address
@@ -402,7 +402,7 @@ module _ (delay now i j k at group : ℕ) (bytes : List ℕ) (L : List Passed) (
   b = broadcast_from m.who group bytes
 
   abbrev H : List Call
-  H = later ++ At at (Transfer group d bytes (Ok k)) ∷ earlier
+  H = later ++ At at (Transfer priority group d bytes (Ok k)) ∷ earlier
 
   -- the acknowledgment that was heard was taken in time
   record Came (says : FrameRecord → Type 0) : Type 0 where
@@ -417,11 +417,11 @@ module _ (delay now i j k at group : ℕ) (bytes : List ℕ) (L : List Passed) (
 
   taken_for : OnlySends L j d → (is : m.history ≡ TakeTransferEnded (Some (k, Done)) ∷ H) → (x : Acked m.who H d b) → Came (λ f. said_between d a f ≡ Some (Acknowledgment (length b.bytes) (packets_of b) b.pgn))
   taken_for o is x =
-      let mid = since_accepted d later x.later earlier x.earlier (At at (Transfer group d bytes (Ok k))) (At x.at (Hear x.frame)) x.is (eq-eqb d d refl) refl x.since in
+      let mid = since_accepted d later x.later earlier x.earlier (At at (Transfer priority group d bytes (Ok k))) (At x.at (Hear x.frame)) x.is (eq-eqb d d refl) refl x.since in
       let told = TakeTransferEnded (Some (k, Done)) in
       let whole : m.history ≡ (told ∷ x.later) ++ At x.at (Hear x.frame) ∷ x.earlier = behind_told m.history H x.later x.earlier told (At x.at (Hear x.frame)) is x.is in
       let time = behind_it m.since now x.at (Hear x.frame) (told ∷ x.later) x.earlier (subst (InTime m.since now) whole (net.in_time i m hm)) in
-      let late = (within m.since x.at at (Transfer group d bytes (Ok k)) mid.0 earlier (subst (InTime m.since x.at) mid.1 time)).1 in
+      let late = (within m.since x.at at (Transfer priority group d bytes (Ok k)) mid.0 earlier (subst (InTime m.since x.at) mid.1 time)).1 in
       let g : FrameRecord = record { stamp = x.at; id = x.frame.id; bytes = x.frame.bytes } in
       let all = heard_split m.history (told ∷ x.later) x.earlier x.at x.frame whole in
       let log = in_log delay (IsNoRequest a d) i m.since L (hears m.history) (hears x.earlier) all.0 g (net.heard i m hm) all.1 in
@@ -437,7 +437,7 @@ module _ (delay now i j k at group : ℕ) (bytes : List ℕ) (L : List Passed) (
         in_time = soon t.frame.stamp t.at log.passed.frame.stamp x.at (moment_is n.who n.history t.later t.earlier t.at t.frame (net.answered j n hn) t.is) t.is_later.in_time log.is_later.in_time late;
         many =
             enough (acknowledged d a b (hears earlier)) (acknowledged d a b (hears x.earlier)) (acknowledged d a b (others i m.since log.before)) (acknowledged d a b (own j log.before))
-            (acknowledged d a b (frames t.earlier)) (heard_front d a b x.earlier mid.0 earlier (At at (Transfer group d bytes (Ok k))) mid.1)
+            (acknowledged d a b (frames t.earlier)) (heard_front d a b x.earlier mid.0 earlier (At at (Transfer priority group d bytes (Ok k))) mid.1)
             (count_come d a b delay (IsNoRequest a d) (others i m.since log.before) (hears x.earlier) log.come) (count_by d a b i j m.since log.before (front_only d j L log.before log.after log.passed log.is o))
             (count_come d a b delay (IsNoRequest a d) (frames t.earlier) (own j log.before) t.come);
       }
@@ -479,7 +479,7 @@ module _ (delay now i j k at group : ℕ) (bytes : List ℕ) (L : List Passed) (
       let right = subst (AreAnswered m.who) is (net.answered i m hm) in
       let x = told_done m.who H k right in
       let same = ap (slice_get (transfers m.who H)) (sym x.token) ∙ (listed m.who (to_whom x.running) H x.running right.0 x.is).at in
-      let z : Some (d, b) ≡ Some (to_whom x.running, x.running.sender.message) = sym (accepted_is m.who later earlier at group d k bytes right.0) ∙ same in
+      let z : Some (d, b) ≡ Some (to_whom x.running, x.running.sender.message) = sym (accepted_is m.who later earlier at priority group d k bytes right.0) ∙ same in
       let y : (d, b) ≡ (to_whom x.running, x.running.sender.message) = same_Some _ _ z in
       let to : d ≡ to_whom x.running = ap (λ (v : ℕ × MessageRecord). v.0) y in
       let message : b ≡ x.running.sender.message = ap (λ (v : ℕ × MessageRecord). v.1) y in

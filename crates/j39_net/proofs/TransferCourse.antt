@@ -71,7 +71,7 @@ was_more w d H call o q (Change.hears now f x) b t e = was_map (heard_open (is_l
 was_more w d H call o q (Change.claims now f x c m) b t e = was_map (leaves_in None (holder w (At now (TakeFrame (Some f)) ∷ H)) (clock_at w H now)) x t
     (left_same (holder w (At now (TakeFrame (Some f)) ∷ H)) (clock_at w H now)) e
 was_more w d H call o q (Change.sends now f s z m) b t e = was_map (sends_in (clock_at w H now)) (Some s.running) t (sent_same (clock_at w H now)) e
-was_more w d H call o q (Change.starts now group to k bytes i z) b t e = absurd (not_both _ b (eq-eqb to d z))
+was_more w d H call o q (Change.starts now priority group to k bytes i z) b t e = absurd (not_both _ b (eq-eqb to d z))
 was_more w d H call o q (Change.ends x r z) b t e = absurd (cc)
 was_more w d H call o q (Change.stays c x b2 m n i u v) b t e = record { running = t; is = e; message = refl }
 
@@ -205,10 +205,10 @@ module _ (w : Who) (d : ℕ) where
   none_more T to b n =
       ap (λ (t : Bool). messages_to d T ++ map (λ (x : ℕ × MessageRecord). x.1) (if t then (to, b) ∷ [] else [])) (ne_eqb to d n) ∙ append-nil (messages_to d T)
 
-  accepted_one : (H : List Call) (now group to k : ℕ) (bytes : List ℕ) → AreAnswered w (At now (Transfer group to bytes (Ok k)) ∷ H) → IsLong (broadcast_from w group bytes) → Coursed w d H
-      → Coursed w d (At now (Transfer group to bytes (Ok k)) ∷ H)
+  accepted_one : (H : List Call) (now priority group to k : ℕ) (bytes : List ℕ) → AreAnswered w (At now (Transfer priority group to bytes (Ok k)) ∷ H) → IsLong (broadcast_from w group bytes) → Coursed w d H
+      → Coursed w d (At now (Transfer priority group to bytes (Ok k)) ∷ H)
   unfolding new_sender
-  accepted_one H now group to k bytes right long c =
+  accepted_one H now priority group to k bytes right long c =
       let b = broadcast_from w group bytes in
       record {
         asked = c.asked;
@@ -216,13 +216,13 @@ module _ (w : Who) (d : ℕ) where
         part = subst (IsPart c.asked) (sym (messages_more (transfers w H) to b)) (part_longer c.asked (messages_to d (transfers w H)) (messages_to d ((to, b) ∷ [])) c.part);
         current = λ t i. elim (cases_eq to d) [
           | inl z ↦
-              let h = open_begun w now group to k bytes H right.0 right.1 in
-              let y = same_Some (begun_to w H now group to bytes) t (sym h.1 ∙ (ap (λ (n : ℕ). open_to w n (At now (Transfer group to bytes (Ok k)) ∷ H)) z ∙ i)) in
+              let h = open_begun w now priority group to k bytes H right.0 right.1 in
+              let y = same_Some (begun_to w H now priority group to bytes) t (sym h.1 ∙ (ap (λ (n : ℕ). open_to w n (At now (Transfer priority group to bytes (Ok k)) ∷ H)) z ∙ i)) in
               subst (λ (v : List Message). IsOpenAt (messages_to d (transfers w H ++ (to, b) ∷ [])) c.asked v t.sender.message) (sym (ap (λ (q : Bool). if q then [] else moves w d H) (eq-eqb to d z)))
               (subst (IsOpenAt (messages_to d (transfers w H ++ (to, b) ∷ [])) c.asked []) (ap (λ (v : Running). v.sender.message) y)
               (inl (refl, long, messages_to d (transfers w H), messages_more (transfers w H) to b ∙ ap (λ xs. messages_to d (transfers w H) ++ xs) (one_more to b z), c.part)))
           | inr z ↦
-              let u = was H (At now (Transfer group to bytes (Ok k))) right (ne_eqb to d z) t i in
+              let u = was H (At now (Transfer priority group to bytes (Ok k))) right (ne_eqb to d z) t i in
               subst (λ (v : List Message). IsOpenAt (messages_to d (transfers w H ++ (to, b) ∷ [])) c.asked v t.sender.message) (sym (ap (λ (q : Bool). if q then [] else moves w d H) (ne_eqb to d z)))
               (subst (λ (v : List MessageRecord). IsOpenAt v c.asked (moves w d H) t.sender.message) (sym (messages_more (transfers w H) to b ∙ none_more (transfers w H) to b z))
               (subst (IsOpenAt (messages_to d (transfers w H)) c.asked (moves w d H)) (sym u.message) (c.current u.running u.is)))
@@ -233,10 +233,11 @@ module _ (w : Who) (d : ℕ) where
   coursed [] l m fits right = record { asked = []; course = Course.none; part = tt; current = λ t e. absurd (none-some t (sym (none_first w d right) ∙ e)) }
   coursed (At now (Hear f) ∷ H) l m fits right = goes_on H (At now (Hear f)) right refl refl refl refl (coursed H l m fits right.0)
   coursed (At now (TakeFrame (Some f)) ∷ H) l m fits right = taken_one H now f l m right (coursed H l m fits right.0) (cases_Bool (is_move_to w d H f))
-  coursed (At now (Transfer group to bytes (Ok k)) ∷ H) l m fits right =
+  coursed (At now (Transfer priority group to bytes (Ok k)) ∷ H) l m fits right =
       let b = broadcast_from w group bytes in
-      accepted_one H now group to k bytes right
+      accepted_one H now priority group to k bytes right
       (long_by w group bytes l (all_last (λ (x : ℕ × MessageRecord). x.1.pgn < 2 ^ 18) (transfers w H) (to, b) fits)
-      (and_parts (can_broadcast group bytes) (nat_lt to 254 && not (nat_eq to w.address)) (transfer_accepts w H now group to k bytes right.1).1).0)
+      (and_parts (can_broadcast group bytes) (nat_lt to 254 && not (nat_eq to w.address))
+      (and_parts (nat_lt priority 8) (can_broadcast group bytes && (nat_lt to 254 && not (nat_eq to w.address))) (transfer_accepts w H now priority group to k bytes right.1).1).1).0)
       (coursed H l m (all_front (λ (x : ℕ × MessageRecord). x.1.pgn < 2 ^ 18) (transfers w H) ((to, b) ∷ []) fits) right.0)
   coursed (call ∷ H) l m fits right = goes_on H call right refl refl refl refl (coursed H l m fits right.0)

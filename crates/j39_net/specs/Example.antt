@@ -86,7 +86,7 @@ sender = record {
       ∷ At 302300 (TakeFrame (Some (first_to 302300)))
       ∷ At 302200 (Hear (clear 302100))
       ∷ At 301000 (TakeFrame (Some (request_to 301000)))
-      ∷ At 301000 (Transfer 65226 11 nine (Ok 0))
+      ∷ At 301000 (Transfer 7 65226 11 nine (Ok 0))
       ∷ At 100 (TakeFrame (Some (own_claim 100)))
       ∷ [];
 }

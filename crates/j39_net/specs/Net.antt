@@ -191,8 +191,8 @@ NoneAnew H = All (λ call. claims_anew call ≡ false) H
 
 -- behind a history whose last call accepts a transfer these calls take at most so long, and by them it is over, and done
 abbrev pub IsDoneIn : ℕ → Who → List Call → List Call → Type 0
-IsDoneIn t w later (At at (Transfer group destination bytes (Ok k)) ∷ earlier) =
-    let H = At at (Transfer group destination bytes (Ok k)) ∷ earlier in
+IsDoneIn t w later (At at (Transfer priority group destination bytes (Ok k)) ∷ earlier) =
+    let H = At at (Transfer priority group destination bytes (Ok k)) ∷ earlier in
     (passed_in later H ≤ t) × (next_transfer_ended w (later ++ H) ≡ Some (k, Done))
 IsDoneIn t w later H = ⊥
 

@@ -147,11 +147,11 @@ pub fn transfers_once()
 /// (RTS) was taken more than 2 * delay before this one was accepted, or as many as it had taken then were heard before that. One that comes
 /// late is taken for its own, since it tells only group and length.
 pub fn done_is_received()
-    ensures { (delay now i j k at group : ℕ) (bytes : List ℕ) (L : List Passed) (members : List Member) (m n : Member) (later earlier : List Call)
+    ensures { (delay now i j k at priority group : ℕ) (bytes : List ℕ) (L : List Passed) (members : List Member) (m n : Member) (later earlier : List Call)
         → Net delay now (IsNoRequest m.who.address n.who.address) L members → IsMember members i m → IsMember members j n → i ≢ j
         → OnlySends L i m.who.address → OnlySends L j n.who.address → NoneAnew n.history
         → All (λ x. x.1.pgn < 2 ^ 18) (transfers m.who m.history)
-        → m.history ≡ TakeTransferEnded (Some (k, ending.Done)) ∷ later ++ At at (Transfer group n.who.address bytes (Ok k)) ∷ earlier
+        → m.history ≡ TakeTransferEnded (Some (k, ending.Done)) ∷ later ++ At at (Transfer priority group n.who.address bytes (Ok k)) ∷ earlier
         → NoneLate m.who.address n.who.address (broadcast_from m.who group bytes) (2 * delay) at earlier n.history
         → Contains (map (λ x. x.1) (delivered n.who n.history)) (broadcast_from m.who group bytes) }
 {}
@@ -220,7 +220,7 @@ pub fn an_example_of_transfers()
     ensures apart { OnlySends transferred 0 128 × OnlySends transferred 1 11 }
     ensures anew { NoneAnew receiver.history }
     ensures done { sender.history
-        ≡ TakeTransferEnded (Some (0, ending.Done)) ∷ take 5 (drop 1 sender.history) ++ At 301000 (Transfer 65226 11 nine (Ok 0)) ∷ drop 7 sender.history }
+        ≡ TakeTransferEnded (Some (0, ending.Done)) ∷ take 5 (drop 1 sender.history) ++ At 301000 (Transfer 7 65226 11 nine (Ok 0)) ∷ drop 7 sender.history }
     ensures done_in { IsDoneIn (done_by 1000 800 2 (broadcast_from two 65226 nine)) two (take 5 (drop 1 sender.history)) (drop 6 sender.history) }
     ensures in_time { NoneLate 128 11 (broadcast_from two 65226 nine) 2000 301000 (drop 7 sender.history) receiver.history }
     ensures whole { map (λ x. x.1) (delivered receiver.who receiver.history) ≡ messages_to 11 (transfers two sender.history) }

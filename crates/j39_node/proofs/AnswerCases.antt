@@ -26,18 +26,18 @@ pub broadcast_accepts : (w : Who) (H : List Call) (now group k : ℕ) (bytes : L
     → Accepts (holds w H now) (can_broadcast group bytes) (is_busy w H) (length (broadcasts w H)) k
 broadcast_accepts w H now group k bytes e = accepts (holds w H now) (can_broadcast group bytes) (is_busy w H) (length (broadcasts w H)) k e
 
-pub transfer_accepts : (w : Who) (H : List Call) (now group to k : ℕ) (bytes : List ℕ) → Ok k ≡ answer_to_transfer w H now group to bytes
-    → Accepts (holds w H now) (can_transfer w group to bytes) (is_refused_now w H now group to bytes) (length (all_transfers w H)) k
-transfer_accepts w H now group to k bytes e = accepts (holds w H now) (can_transfer w group to bytes) (is_refused_now w H now group to bytes) (length (all_transfers w H)) k e
+pub transfer_accepts : (w : Who) (H : List Call) (now priority group to k : ℕ) (bytes : List ℕ) → Ok k ≡ answer_to_transfer w H now priority group to bytes
+    → Accepts (holds w H now) (can_transfer w priority group to bytes) (is_refused_now w H now priority group to bytes) (length (all_transfers w H)) k
+transfer_accepts w H now priority group to k bytes e = accepts (holds w H now) (can_transfer w priority group to bytes) (is_refused_now w H now priority group to bytes) (length (all_transfers w H)) k e
 
 -- what is tried can be sent
 tried_by : (a b f : Bool) (k : ℕ) (r : Result ℕ Refused) (last : Bool) → r ≡ answer_by a b f k → is_tried r last ≡ true → b ≡ true
 tried_by a b f k r last e t = grind (arith, e, t)
 
-pub transfer_tried : (w : Who) (H : List Call) (now group to : ℕ) (bytes : List ℕ) (r : Result ℕ Refused) (last : Bool) → r ≡ answer_to_transfer w H now group to bytes
-    → is_tried r last ≡ true → can_transfer w group to bytes ≡ true
-transfer_tried w H now group to bytes r last e t =
-    tried_by (holds w H now) (can_transfer w group to bytes) (is_refused_now w H now group to bytes) (length (all_transfers w H)) r last e t
+pub transfer_tried : (w : Who) (H : List Call) (now priority group to : ℕ) (bytes : List ℕ) (r : Result ℕ Refused) (last : Bool) → r ≡ answer_to_transfer w H now priority group to bytes
+    → is_tried r last ≡ true → can_transfer w priority group to bytes ≡ true
+transfer_tried w H now priority group to bytes r last e t =
+    tried_by (holds w H now) (can_transfer w priority group to bytes) (is_refused_now w H now priority group to bytes) (length (all_transfers w H)) r last e t
 
 -- it is, where nothing stands against it
 pub is_accepted : {T : Type 0} (a b f : Bool) (x : T) (answer : Result T Refused) → answer ≡ answer_by a b f x → IsTrue a → IsTrue b → (f ≡ true → ⊥) → answer ≡ Ok x

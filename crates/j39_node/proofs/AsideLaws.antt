@@ -207,10 +207,10 @@ next w (At now (Broadcast group bytes (Ok k))) s = record (passes now s) {
   packets = [];
   pause = max 100000 (s.pause - (now - s.moment));
 }
-next w (At now (Transfer group to bytes answer)) s = record (passes now s) {
+next w (At now (Transfer priority group to bytes answer)) s = record (passes now s) {
   transfers = if is_ok answer then s.transfers ++ (to, broadcast_from w group bytes) ∷ [] else s.transfers;
   port = if is_tried answer (nat_eq (length s.transfers) 18446744073709551615)
-      then transfers_begin (order (length s.transfers) group to bytes) (s.holder to) (clock (s.age + (now - s.moment))) s.port else s.port;
+      then transfers_begin (order (length s.transfers) priority group to bytes) (s.holder to) (clock (s.age + (now - s.moment))) s.port else s.port;
 }
 next w (Withdraw k true) s = record s {
   accepted = slice_set s.accepted k (k, blank);
@@ -239,11 +239,11 @@ transfers_took w H now true m who = refl
 transfers_took w H now false true who = refl
 transfers_took w H now false false who = refl
 
-transfers_try : (w : Who) (H : List Call) (now group to : ℕ) (bytes : List ℕ) (b : Bool)
-    → transfers_after 0 w.transfers (tried_events b (Begins (order (length (transfers w H)) group to bytes) (holder w H to) (clock_at w H now)) (transfer_events w H))
-    ≡ (if b then transfers_begin (order (length (transfers w H)) group to bytes) (holder w H to) (clock_at w H now) (transfers_at w H) else transfers_at w H)
-transfers_try w H now group to bytes true = refl
-transfers_try w H now group to bytes false = refl
+transfers_try : (w : Who) (H : List Call) (now priority group to : ℕ) (bytes : List ℕ) (b : Bool)
+    → transfers_after 0 w.transfers (tried_events b (Begins (order (length (transfers w H)) priority group to bytes) (holder w H to) (clock_at w H now)) (transfer_events w H))
+    ≡ (if b then transfers_begin (order (length (transfers w H)) priority group to bytes) (holder w H to) (clock_at w H now) (transfers_at w H) else transfers_at w H)
+transfers_try w H now priority group to bytes true = refl
+transfers_try w H now priority group to bytes false = refl
 
 state_is : (w : Who) (call : Call) (H : List Call) → state w (call ∷ H) ≡ next w call (state w H)
 state_is w (At now (TakeFrame None)) H = refl
@@ -251,11 +251,11 @@ state_is w (At now (Send d (Ok k))) H = refl
 state_is w (At now (Ask group to (Ok k))) H = refl
 state_is w (At now (Acknowledge r a (Ok x))) H = refl
 state_is w (At now (Broadcast group bytes (Ok k))) H = refl
-state_is w (At now (Transfer group to bytes (Ok k))) H = λ i. record (next w (At now (Transfer group to bytes (Ok k))) (state w H)) {
-  port = transfers_try w H now group to bytes (is_tried (Ok k) (nat_eq (length (transfers w H)) 18446744073709551615)) i;
+state_is w (At now (Transfer priority group to bytes (Ok k))) H = λ i. record (next w (At now (Transfer priority group to bytes (Ok k))) (state w H)) {
+  port = transfers_try w H now priority group to bytes (is_tried (Ok k) (nat_eq (length (transfers w H)) 18446744073709551615)) i;
 }
-state_is w (At now (Transfer group to bytes (Err x))) H = λ i. record (next w (At now (Transfer group to bytes (Err x))) (state w H)) {
-  port = transfers_try w H now group to bytes (is_tried (Err x) (nat_eq (length (transfers w H)) 18446744073709551615)) i;
+state_is w (At now (Transfer priority group to bytes (Err x))) H = λ i. record (next w (At now (Transfer priority group to bytes (Err x))) (state w H)) {
+  port = transfers_try w H now priority group to bytes (is_tried (Err x) (nat_eq (length (transfers w H)) 18446744073709551615)) i;
 }
 state_is w (Withdraw k false) H = refl
 state_is w (Renew d None) H = refl
@@ -323,9 +323,9 @@ Answers w s (At now (Broadcast group bytes answer)) =
     answer ≡ answer_by (holds_at s now) (can_broadcast group bytes) (is_open s.broadcast || nat_eq (length s.broadcasts) 18446744073709551615) (length s.broadcasts)
 Answers w s (TakeBroadcastEnded answer) = answer ≡ broadcast_end s.broadcast (length s.packets) (is_lost s.address)
 Answers w s (ReleaseTransfer answer) = answer ≡ nat_lt 0 (length s.reception.waits)
-Answers w s (At now (Transfer group to bytes answer)) =
-    answer ≡ answer_by (holds_at s now) (can_transfer w group to bytes)
-    (nat_eq (length s.transfers) 18446744073709551615 || not (is_ok (transfers_answer (order (length s.transfers) group to bytes) (awake (clock (s.age + (now - s.moment))) s.port)))) (length s.transfers)
+Answers w s (At now (Transfer priority group to bytes answer)) =
+    answer ≡ answer_by (holds_at s now) (can_transfer w priority group to bytes)
+    (nat_eq (length s.transfers) 18446744073709551615 || not (is_ok (transfers_answer (order (length s.transfers) priority group to bytes) (awake (clock (s.age + (now - s.moment))) s.port)))) (length s.transfers)
 Answers w s (TakeTransferEnded answer) = answer ≡ ended_told s.port
 Answers w s (At now (Ask group to answer)) = answer ≡ answer_by (holds_at s now) (can_ask w group to) (full_by s || is_asking s.ask) (length s.accepted)
 Answers w s (TakeAskEnded answer) = answer ≡ ask_end s.ask (s.reached) s.ended s.wait (comes_at s.time s) (is_lost s.address)

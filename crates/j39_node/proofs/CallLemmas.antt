@@ -2,7 +2,7 @@
 use Rattle.std.proofs.lemmas.Grind.{common_steps}
 use Rattle.j39_node.proofs.KindLemmas.{Kind, kind, kind_by, kind_is, single}
 use Rattle.j39_node.proofs.SoundLemmas.FrameCase.{claims as claims_first, acknowledges, replies, sends, packs, transfers}
-use Rattle.j39_node.proofs.Common.{made_of, whole, MessageRecord, [], accepted, acknowledged, Address, address_after, after, age, all_replies, all_transfers, ap, AreAnswered, arith, Asked, asked_by, asked_whom, asking_of, AskRecord, At, at_in, blank, Bool, Call, called, called_for, calls, can_claim, can_send, claim_address, claim_due, claim_from, claim_goes, claim_of, claimed, Claims, claims, clock, clock_at, comes, cond_some, Controller, counted, delayed, Done, Draft, drop, drop-append-le, drop-map, Due, due, end_of, ended, Ending, ending_of, events, false, first, found_by_frame, FrameRecord, gives_way, got, has_packets, has_token, Hear, heard_at, hearing_after, hearing_of, held_at, Hold, hold_acknowledged, hold_after, hold_asked, hold_claimed, hold_spoken, hold_went, holder, holder_in, holds, if_heard, IfSome, if◌then◌else◌, Incoming, incoming_after, incoming_of, inl, inr, Is, is_apart, is_asking, is_blank, is_busy, is_claim, is_coming, is_for_program, is_full, is_held, is_left, is_lost, is_open, is_served, is_smaller, is_there, is_turn, IsAnswered, IsOthers, kept, Knows, lane_after, lane_of, latest, le-ltb, leaves, leb-true, led, left_at, length, length-drop, length-map, length-set, less, List, Lost, lost, lt-ltb, ltb-false, ltb-true, made_in_sessions, map, map-append, marks, max, may_claim, may_go, Message, message_from, message_of, min, missed_news, moment, more, Move, nat_eq, nat_le, nat_lt, news_after, next_acknowledgment, next_due, next_frame, next_packet, next_renewed, next_transfer, next_transfer_ended, next_turn, next_withdrawn, None, not, nothing, offered, older, open_ask, Option, option_map, other, Outgoing, owes_claim, packet_by, packets, packets_in, passed, past, pause, paused, place_of, port_after, port_of, posted, reached, Ready, ready_in, refl, refusal_by, Renew, Renews, replies_of, Reply, senders, sessions_after, Single, slice_get, slice_get_past, slice_get_within, slice_set, Some, sooner, source_of, stamp_at, stamped, standing_of, stands, step, subst, suc, sym, TakeEnded, TakeFrame, taken_by, taken_whom, those_over, time_heard, told, told_claims, true, turn_frame, turn_of, turns, unclaimed, unclaims, unheard_news, Untold, View, view, wait, Who, who_of, with_called, with_reception, with_refusal, with_request, Withdraw, Withdrawn, yields, ℕ, ◌&&◌, ◌++◌, ◌+◌, ◌-◌, ◌<◌, ◌||◌, ◌∙◌, ◌∷◌, ◌≡◌, ◌≤◌, passed_to, later, carried_by, said, soonest, taken_events, transfer_events, transfers_at, is_over, Running, TransfersRecord, TransferEnding, append-nil, has_some, order, Transfer, Result, Refused, Ok, Err, Full, tried_events, heard_events, is_tried, broadcast_from, TakeTransferEnded}
+use Rattle.j39_node.proofs.Common.{made_of, whole, MessageRecord, [], accepted, acknowledged, Address, address_after, after, age, all_replies, all_transfers, ap, AreAnswered, arith, Asked, asked, asked_by, asker_by, askers, asked_whom, asking_of, AskRecord, At, at_in, blank, Bool, Call, called, called_for, calls, can_claim, can_send, claim_address, claim_due, claim_from, claim_goes, claim_of, claimed, Claims, claims, clock, clock_at, comes, cond_some, Controller, counted, delayed, Done, Draft, drop, drop-append-le, drop-map, Due, due, end_of, ended, Ending, ending_of, events, false, first, found_by_frame, FrameRecord, fresh, gives_way, got, handed, has_packets, has_token, Hear, heard_at, hearing_after, hearing_of, held_at, Hold, hold_acknowledged, hold_after, hold_asked, hold_claimed, hold_spoken, hold_went, holder, holder_in, holds, if_heard, IfSome, if◌then◌else◌, Incoming, incoming_after, incoming_of, inl, inr, Is, is_apart, is_asking, is_blank, is_busy, is_claim, is_coming, is_for_program, is_full, is_held, is_left, is_lost, is_open, is_served, is_smaller, is_there, is_turn, IsAnswered, IsOthers, kept, Knows, lane_after, lane_of, latest, le-ltb, leaves, leb-true, led, left_at, length, length-drop, length-map, length-set, less, List, Lost, lost, lt-ltb, ltb-false, ltb-true, made_in_sessions, map, map-append, marks, max, may_claim, may_go, Message, message_from, message_of, min, missed_news, moment, more, Move, nat_eq, nat_le, nat_lt, news_after, next_acknowledgment, next_due, next_frame, next_packet, next_renewed, next_transfer, next_transfer_ended, next_turn, next_withdrawn, None, not, nothing, offered, older, open_ask, Option, option_map, other, Outgoing, owes_claim, packet_by, packets, packets_in, passed, past, pause, paused, place_of, port_after, port_of, posted, reached, Ready, ready_in, refl, refusal_by, Renew, Renews, replies_of, Reply, Request, requests, senders, sessions_after, Single, slice_get, slice_get_past, slice_get_within, slice_set, Some, sooner, source_of, stamp_at, stamped, standing_of, stands, step, subst, suc, sym, TakeEnded, TakeFrame, taken_by, taken_whom, those_over, time_heard, told, told_claims, true, turn_frame, turn_of, turns, unclaimed, unclaims, unheard_news, Untold, View, view, wait, Who, who_of, with_called, with_asker, with_reception, with_refusal, with_request, Withdraw, Withdrawn, yields, ℕ, ◌&&◌, ◌++◌, ◌+◌, ◌-◌, ◌<◌, ◌||◌, ◌∙◌, ◌∷◌, ◌≡◌, ◌≤◌, passed_to, later, carried_by, said, soonest, taken_events, transfer_events, transfers_at, is_over, Running, TransfersRecord, TransferEnding, append-nil, has_some, order, Transfer, Result, Refused, Ok, Err, Full, tried_events, heard_events, is_tried, broadcast_from, TakeTransferEnded}
 use Rattle.j39_node.specs.Boxes.{in_box}
 use Rattle.j39_node.specs.Is.{leaving}
 use Rattle.j39_node.specs.Reception.{is_waiting}
@@ -460,6 +460,29 @@ pub request_rest : (w : Who) (room : Bool) (o : Option Asked) (L xs : List Asked
 request_rest w room None L xs n l e = e
 request_rest w room (Some r) L xs n l e = rest_grows (is_served w r.group && room) L xs n r l e
 
+-- one that is fresh is the one that was asked
+pub asker_stays : (o p : Option Request) (name : Option ℕ) → IfSome p (λ r. o ≡ Some r) → IfSome o (λ r. asker_by r ≡ name) → IfSome p (λ r. asker_by r ≡ name)
+asker_stays o None name e f = e
+asker_stays o (Some r) name e f = subst (λ (q : Option Request). IfSome q (λ r. asker_by r ≡ name)) e f
+
+-- the NAMEs beside them
+one_asker : (w : Who) (room : Bool) (o : Option Asked) (name : Option ℕ) (names : List (Option ℕ)) (L : List Asked) → length names ≡ length L
+    → length (with_asker w room o name names) ≡ length (with_request w room o L)
+one_asker w room None name names L e = e
+one_asker w room (Some r) name names L e = one_more (is_served w r.group && room) names L name r e
+
+pub askers_length : (w : Who) (H : List Call) → length (askers w H) ≡ length (requests w H)
+askers_length w [] = refl
+askers_length w (At now (Hear f) ∷ H) =
+    one_asker w (nat_lt (length (requests w H) - length (handed H)) 16) (fresh w (drop (length (handed H)) (requests w H)) (asked w (holds w H now) f))
+    (holder w H (source_of f.id)) (askers w H) (requests w H) (askers_length w H)
+askers_length w (call ∷ H) = askers_length w H
+
+pub asker_rest : (w : Who) (room : Bool) (o : Option Asked) (name : Option ℕ) (L xs : List (Option ℕ)) (n : ℕ) → n ≤ length L → xs ≡ drop n L
+    → with_asker w room o name xs ≡ drop n (with_asker w room o name L)
+asker_rest w room None name L xs n l e = e
+asker_rest w room (Some r) name L xs n l e = rest_grows (is_served w r.group && room) L xs n name l e
+
 pub refusal_rest : (w : Who) (room place : Bool) (o : Option Asked) (L xs : List Message) (n : ℕ) → n ≤ length L → xs ≡ drop n L
     → with_refusal w room place o xs ≡ drop n (with_refusal w room place o L)
 refusal_rest w room place None L xs n l e = e
@@ -852,24 +875,24 @@ transfers_heard w H true now who f = refl
 transfers_heard w H false now who f = refl
 
 -- a message is handed in that can be sent
-module _ (w : Who) (H : List Call) (now group to : ℕ) (bytes : List ℕ) where
+module _ (w : Who) (H : List Call) (now priority group to : ℕ) (bytes : List ℕ) where
   abbrev begun_now : TransfersRecord
-  begun_now = transfers_begin (order (length (all_transfers w H)) group to bytes) (holder w H to) (clock_at w H now) (transfers_at w H)
+  begun_now = transfers_begin (order (length (all_transfers w H)) priority group to bytes) (holder w H to) (clock_at w H now) (transfers_at w H)
 
   pub transfers_tried : (other : Bool) (r : Result ℕ Refused) → r ≡ (if nat_eq (length (all_transfers w H)) 18446744073709551615 || other then Err Full else Ok (length (all_transfers w H)))
-      → (if nat_eq (length (all_transfers w H)) 18446744073709551615 then transfers_at w H else begun_now) ≡ transfers_at w (At now (Transfer group to bytes r) ∷ H)
+      → (if nat_eq (length (all_transfers w H)) 18446744073709551615 then transfers_at w H else begun_now) ≡ transfers_at w (At now (Transfer priority group to bytes r) ∷ H)
   transfers_tried other r e =
       by (nat_eq (length (all_transfers w H)) 18446744073709551615) (tried (nat_eq (length (all_transfers w H)) 18446744073709551615) other (length (all_transfers w H)) r e)
     where
       by : (last : Bool) → is_tried r (nat_eq (length (all_transfers w H)) 18446744073709551615) ≡ not last
-          → (if last then transfers_at w H else begun_now) ≡ transfers_at w (At now (Transfer group to bytes r) ∷ H)
-      by true i = sym (ap (λ (b : Bool). transfers_after 0 w.transfers (tried_events b (Begins (order (length (all_transfers w H)) group to bytes) (holder w H to) (clock_at w H now)) (transfer_events w H))) i)
-      by false i = sym (ap (λ (b : Bool). transfers_after 0 w.transfers (tried_events b (Begins (order (length (all_transfers w H)) group to bytes) (holder w H to) (clock_at w H now)) (transfer_events w H))) i)
+          → (if last then transfers_at w H else begun_now) ≡ transfers_at w (At now (Transfer priority group to bytes r) ∷ H)
+      by true i = sym (ap (λ (b : Bool). transfers_after 0 w.transfers (tried_events b (Begins (order (length (all_transfers w H)) priority group to bytes) (holder w H to) (clock_at w H now)) (transfer_events w H))) i)
+      by false i = sym (ap (λ (b : Bool). transfers_after 0 w.transfers (tried_events b (Begins (order (length (all_transfers w H)) priority group to bytes) (holder w H to) (clock_at w H now)) (transfer_events w H))) i)
 
       tried : (last other : Bool) (k : ℕ) (r : Result ℕ Refused) → r ≡ (if last || other then Err Full else Ok k) → is_tried r last ≡ not last
       tried last other k r e = grind (arith, e)
 
-  pub tokens_tried : (n : ℕ) (r : Result ℕ Refused) → n ≡ length (all_transfers w H) → (if is_ok r then n + 1 else n) ≡ length (all_transfers w (At now (Transfer group to bytes r) ∷ H))
+  pub tokens_tried : (n : ℕ) (r : Result ℕ Refused) → n ≡ length (all_transfers w H) → (if is_ok r then n + 1 else n) ≡ length (all_transfers w (At now (Transfer priority group to bytes r) ∷ H))
   tokens_tried n (Ok k) e = let m = length_one_more (all_transfers w H) (to, broadcast_from w group bytes) in omega (arith, e, m)
   tokens_tried n (Err x) e = e
 

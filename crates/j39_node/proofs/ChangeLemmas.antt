@@ -55,8 +55,8 @@ pub data Change (w : Who) (a : ℕ) (H : List Call) : Call → Option Running �
       → Change w a H (At now (TakeFrame (Some f))) o (option_map (leaves_in None (holder w (At now (TakeFrame (Some f)) ∷ H)) (clock_at w H now)) o)
   sends : (now : ℕ) (f : FrameRecord) (s : Sent w H now f) → to_whom s.running ≡ a → is_move_to w a H f ≡ true
       → Change w a H (At now (TakeFrame (Some f))) (Some s.running) (Some (sent_in_one (clock_at w H now) s.running))
-  starts : (now group to k : ℕ) (bytes : List ℕ) → Ok k ≡ answer_to_transfer w H now group to bytes → to ≡ a
-      → Change w a H (At now (Transfer group to bytes (Ok k))) None (Some (begun_to w H now group to bytes))
+  starts : (now priority group to k : ℕ) (bytes : List ℕ) → Ok k ≡ answer_to_transfer w H now priority group to bytes → to ≡ a
+      → Change w a H (At now (Transfer priority group to bytes (Ok k))) None (Some (begun_to w H now priority group to bytes))
   ends : (e : ℕ × TransferEnding) (t : Told w H e) → to_whom t.running ≡ a → Change w a H (TakeTransferEnded (Some e)) (Some t.running) None
   stays : (call : Call) (o : Option Running) → begins a call ≡ false → moves w a (call ∷ H) ≡ moves w a H → clears w a (call ∷ H) ≡ clears w a H
       → holder w (call ∷ H) a ≡ holder w H a → ((e : ℕ × TransferEnding) → call ≡ TakeTransferEnded (Some e) → (t : Told w H e) × (to_whom t.running ≢ a))
@@ -109,40 +109,40 @@ module _ (w : Who) (a : ℕ) (H : List Call) where
       ]
 
   -- a message is accepted, or refused
-  started : (now group to k : ℕ) (bytes : List ℕ) → AreAnswered w H → Ok k ≡ answer_to_transfer w H now group to bytes → Does (At now (Transfer group to bytes (Ok k)))
-  started now group to k bytes right e = elim (cases_eq to a) [
+  started : (now priority group to k : ℕ) (bytes : List ℕ) → AreAnswered w H → Ok k ≡ answer_to_transfer w H now priority group to bytes → Does (At now (Transfer priority group to bytes (Ok k)))
+  started now priority group to k bytes right e = elim (cases_eq to a) [
     | inl z ↦
-        let h = open_begun w now group to k bytes H right e in
-        subst (λ (q : Option Running). Change w a H (At now (Transfer group to bytes (Ok k))) q (open_to w a (At now (Transfer group to bytes (Ok k)) ∷ H))) (sym h.0 ∙ ap (λ (n : ℕ). open_to w n H) z)
-        (subst (Change w a H (At now (Transfer group to bytes (Ok k))) None) (sym h.1 ∙ ap (λ (n : ℕ). open_to w n (At now (Transfer group to bytes (Ok k)) ∷ H)) z)
-        (starts now group to k bytes e z))
-    | inr z ↦ subst (To (At now (Transfer group to bytes (Ok k)))) (sym (open_begun_other w a now group to bytes (Ok k) H z))
-        (stays (At now (Transfer group to bytes (Ok k))) (open_to w a H) (ne_eqb to a z) (ap (λ (b : Bool). if b then [] else moves w a H) (ne_eqb to a z)) (ap (λ (b : Bool). if b then 0 else clears w a H) (ne_eqb to a z)) refl (λ x z. absurd (cc)) (λ n f z. absurd (cc)))
+        let h = open_begun w now priority group to k bytes H right e in
+        subst (λ (q : Option Running). Change w a H (At now (Transfer priority group to bytes (Ok k))) q (open_to w a (At now (Transfer priority group to bytes (Ok k)) ∷ H))) (sym h.0 ∙ ap (λ (n : ℕ). open_to w n H) z)
+        (subst (Change w a H (At now (Transfer priority group to bytes (Ok k))) None) (sym h.1 ∙ ap (λ (n : ℕ). open_to w n (At now (Transfer priority group to bytes (Ok k)) ∷ H)) z)
+        (starts now priority group to k bytes e z))
+    | inr z ↦ subst (To (At now (Transfer priority group to bytes (Ok k)))) (sym (open_begun_other w a now priority group to bytes (Ok k) H z))
+        (stays (At now (Transfer priority group to bytes (Ok k))) (open_to w a H) (ne_eqb to a z) (ap (λ (b : Bool). if b then [] else moves w a H) (ne_eqb to a z)) (ap (λ (b : Bool). if b then 0 else clears w a H) (ne_eqb to a z)) refl (λ x z. absurd (cc)) (λ n f z. absurd (cc)))
   ]
 
   refused_so : (r : Result Unit Refusal) (x : Running) (s : TransfersRecord) → is_ok r ≡ false → (begun_if r x s).running ≡ s.running
   refused_so (Ok u) x s e = absurd (cc)
   refused_so (Err e) x s i = refl
 
-  refused : (now group to : ℕ) (bytes : List ℕ) (x : Refused) → Err x ≡ answer_to_transfer w H now group to bytes → Does (At now (Transfer group to bytes (Err x)))
-  refused now group to bytes x e = go (is_tried (Err x) last) refl
+  refused : (now priority group to : ℕ) (bytes : List ℕ) (x : Refused) → Err x ≡ answer_to_transfer w H now priority group to bytes → Does (At now (Transfer priority group to bytes (Err x)))
+  refused now priority group to bytes x e = go (is_tried (Err x) last) refl
     where
       last : Bool
       last = nat_eq (length (all_transfers w H)) 18446744073709551615
 
       o : Order
-      o = order (length (all_transfers w H)) group to bytes
+      o = order (length (all_transfers w H)) priority group to bytes
 
       not_ok : (p q c k : Bool) (n : ℕ) → Err x ≡ answer_by p q (c || not k) n → is_tried (Err x) c ≡ true → k ≡ false
       not_ok p q c k n e t = grind (arith, e, t)
 
       go : (b : Bool) → is_tried (Err x) last ≡ b
-          → To (At now (Transfer group to bytes (Err x))) (of_whom a (after 0 w.transfers (tried_events b (Begins o (holder w H to) (clock_at w H now)) (transfer_events w H))).running)
-      go false t = stays (At now (Transfer group to bytes (Err x))) (open_to w a H) refl refl refl refl (λ x z. absurd (cc)) (λ n f z. absurd (cc))
-      go true t = subst (To (At now (Transfer group to bytes (Err x))))
+          → To (At now (Transfer priority group to bytes (Err x))) (of_whom a (after 0 w.transfers (tried_events b (Begins o (holder w H to) (clock_at w H now)) (transfer_events w H))).running)
+      go false t = stays (At now (Transfer priority group to bytes (Err x))) (open_to w a H) refl refl refl refl (λ x z. absurd (cc)) (λ n f z. absurd (cc))
+      go true t = subst (To (At now (Transfer priority group to bytes (Err x))))
           (sym (ap (of_whom a) (refused_so (answer o (awake (clock_at w H now) (transfers_at w H))) (begun (transfers_at w H).own o (holder w H to) (clock_at w H now)) (awake (clock_at w H now) (transfers_at w H))
-          (not_ok (holds w H now) (can_transfer w group to bytes) last (is_ok (answer o (awake (clock_at w H now) (transfers_at w H)))) (length (all_transfers w H)) e t))))
-          (stays (At now (Transfer group to bytes (Err x))) (open_to w a H) refl refl refl refl (λ x z. absurd (cc)) (λ n f z. absurd (cc)))
+          (not_ok (holds w H now) (can_transfer w priority group to bytes) last (is_ok (answer o (awake (clock_at w H now) (transfers_at w H)))) (length (all_transfers w H)) e t))))
+          (stays (At now (Transfer priority group to bytes (Err x))) (open_to w a H) refl refl refl refl (λ x z. absurd (cc)) (λ n f z. absurd (cc)))
 
   -- an end is told
   told_one : (e : ℕ × TransferEnding) → Some e ≡ next_transfer_ended w H → Does (TakeTransferEnded (Some e))
@@ -161,7 +161,7 @@ change w a (At now (Hear f)) H e =
     subst (Change w a H (At now (Hear f)) (open_to w a H)) (sym (open_heard w a now f H)) (hears now f (open_to w a H))
 change w a (At now (TakeFrame (Some f))) H e =
     took w a H now f e.0 (frame_case w H now f e.1) (is_claim f) (is_move w H f) refl refl
-change w a (At now (Transfer group to bytes (Ok k))) H e = started w a H now group to k bytes e.0 e.1
-change w a (At now (Transfer group to bytes (Err x))) H e = refused w a H now group to bytes x e.1
+change w a (At now (Transfer priority group to bytes (Ok k))) H e = started w a H now priority group to k bytes e.0 e.1
+change w a (At now (Transfer priority group to bytes (Err x))) H e = refused w a H now priority group to bytes x e.1
 change w a (TakeTransferEnded (Some x)) H e = told_one w a H x e.1
 change w a call H e = stays call (open_to w a H) refl refl refl refl (λ x z. absurd (cc)) (λ n f z. absurd (cc))

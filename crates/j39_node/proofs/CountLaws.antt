@@ -56,15 +56,15 @@ module _ (w : Who) (H : List Call) where
   begun_count (Ok u) x s = length_one_more s.running x ∙ omega arith
   begun_count (Err e) x s = omega arith
 
-  count_tried : (now group to : ℕ) (bytes : List ℕ) (r : Result ℕ Refused) → r ≡ answer_by (holds w H now) (can_transfer w group to bytes) (is_refused_now w H now group to bytes) (length (all_transfers w H))
-      → length (transfers_at w (At now (Transfer group to bytes r) ∷ H)).running ≡ length Running_now + (if is_ok r then 1 else 0)
-  count_tried now group to bytes r e = go (is_tried r last) refl
+  count_tried : (now priority group to : ℕ) (bytes : List ℕ) (r : Result ℕ Refused) → r ≡ answer_by (holds w H now) (can_transfer w priority group to bytes) (is_refused_now w H now priority group to bytes) (length (all_transfers w H))
+      → length (transfers_at w (At now (Transfer priority group to bytes r) ∷ H)).running ≡ length Running_now + (if is_ok r then 1 else 0)
+  count_tried now priority group to bytes r e = go (is_tried r last) refl
     where
       last : Bool
       last = nat_eq (length (all_transfers w H)) 18446744073709551615
 
       o : Order
-      o = order (length (all_transfers w H)) group to bytes
+      o = order (length (all_transfers w H)) priority group to bytes
 
       q : Result Unit Refusal
       q = answer o (awake (clock_at w H now) (transfers_at w H))
@@ -76,9 +76,9 @@ module _ (w : Who) (H : List Call) where
       tried a b c k n r e t = grind (arith, e, t)
 
       go : (b : Bool) → is_tried r last ≡ b → length (after 0 w.transfers (tried_events b (Begins o (holder w H to) (clock_at w H now)) (transfer_events w H))).running ≡ length Running_now + (if is_ok r then 1 else 0)
-      go false t = let z = untried (holds w H now) (can_transfer w group to bytes) last (is_ok q) (length (all_transfers w H)) r e t in sym (ap (λ (b : Bool). length Running_now + (if b then 1 else 0)) z ∙ omega arith)
+      go false t = let z = untried (holds w H now) (can_transfer w priority group to bytes) last (is_ok q) (length (all_transfers w H)) r e t in sym (ap (λ (b : Bool). length Running_now + (if b then 1 else 0)) z ∙ omega arith)
       go true t = begun_count q (begun (transfers_at w H).own o (holder w H to) (clock_at w H now)) (awake (clock_at w H now) (transfers_at w H))
-          ∙ ap (λ (b : Bool). length Running_now + (if b then 1 else 0)) (sym (tried (holds w H now) (can_transfer w group to bytes) last (is_ok q) (length (all_transfers w H)) r e t))
+          ∙ ap (λ (b : Bool). length Running_now + (if b then 1 else 0)) (sym (tried (holds w H now) (can_transfer w priority group to bytes) last (is_ok q) (length (all_transfers w H)) r e t))
 
 pub counted : (w : Who) (H : List Call) → AreAnswered w H → length (all_transfers w H) ≡ length (told_transfers H) + length (transfers_at w H).running
 counted w [] e = let z = ap length (started w e).0 in omega (arith, z)
@@ -88,13 +88,13 @@ counted w (At now (Hear f) ∷ H) e =
 counted w (At now (TakeFrame (Some f)) ∷ H) e =
     let h = counted w H e.0 in
     let c = count_taken w H (is_claim f) (is_move w H f) (clock_at w H now) (holder w (At now (TakeFrame (Some f)) ∷ H)) in omega (arith, h, c)
-counted w (At now (Transfer group to bytes (Ok k)) ∷ H) e =
+counted w (At now (Transfer priority group to bytes (Ok k)) ∷ H) e =
     let h = counted w H e.0 in
-    let c = count_tried w H now group to bytes (Ok k) e.1 in
+    let c = count_tried w H now priority group to bytes (Ok k) e.1 in
     let n = length_one_more (all_transfers w H) (to, Rattle.j39_node.proofs.Common.broadcast_from w group bytes) in omega (arith, h, c, n)
-counted w (At now (Transfer group to bytes (Err x)) ∷ H) e =
+counted w (At now (Transfer priority group to bytes (Err x)) ∷ H) e =
     let h = counted w H e.0 in
-    let c = count_tried w H now group to bytes (Err x) e.1 in omega (arith, h, c)
+    let c = count_tried w H now priority group to bytes (Err x) e.1 in omega (arith, h, c)
 counted w (TakeTransferEnded (Some x) ∷ H) e =
     let h = counted w H e.0 in
     let t = open_told w H x e.1 in
@@ -190,7 +190,7 @@ module _ (w : Who) (a : ℕ) (Q : Running → Type 0) (token : ℕ) (k : Keeps w
         token_is = ap (λ (y : Running). y.token) z ∙ h.token_is;
         so = k.sends (clock_at w H now) s.running s.signal s.said (subst Q (sym z) h.so);
       }
-  stays_more H call o q (starts now group to j bytes e z) n h = absurd (let z = h.is in cc)
+  stays_more H call o q (starts now priority group to j bytes e z) n h = absurd (let z = h.is in cc)
   stays_more H call o q (ends e t z) n h =
       let y = same_Some t.running h.running h.is in
       absurd (not_both _ n (eq-eqb e.0 token (sym t.token ∙ (ap (λ (y : Running). y.token) y ∙ h.token_is))))
@@ -335,12 +335,12 @@ is_gone w H later c when a f x answer is n e alive own left =
 
 -- ---- what transfer answers
 
-begin_so : (w : Who) (H : List Call) (group to : ℕ) (bytes : List ℕ) → AreAnswered w H → can_transfer w group to bytes ≡ true → can_begin (transfers_at w H).own (order (length (all_transfers w H)) group to bytes) ≡ true
-begin_so w H group to bytes right e =
-    ap (λ (n : ℕ). can_begin n (order (length (all_transfers w H)) group to bytes)) (own_is w H right) ∙ parts (Rattle.j39_node.proofs.Common.is_sendable group) (nat_le 9 (length bytes) && nat_le (length bytes) 1785) (nat_lt to 254) (not (nat_eq to w.address)) e
+begin_so : (w : Who) (H : List Call) (priority group to : ℕ) (bytes : List ℕ) → AreAnswered w H → can_transfer w priority group to bytes ≡ true → can_begin (transfers_at w H).own (order (length (all_transfers w H)) priority group to bytes) ≡ true
+begin_so w H priority group to bytes right e =
+    ap (λ (n : ℕ). can_begin n (order (length (all_transfers w H)) priority group to bytes)) (own_is w H right) ∙ parts (nat_lt priority 8) (Rattle.j39_node.proofs.Common.is_sendable group) (nat_le 9 (length bytes) && nat_le (length bytes) 1785) (nat_lt to 254) (not (nat_eq to w.address)) e
   where
-    parts : (s l t o : Bool) → ((s && l) && (t && o)) ≡ true → (t && (o && l)) ≡ true
-    parts s l t o e = grind (arith, e)
+    parts : (p s l t o : Bool) → (p && ((s && l) && (t && o))) ≡ true → (t && (o && l)) ≡ true
+    parts p s l t o e = grind (arith, e)
 
 answer_not : (b o r n m : Bool) → b ≡ true → is_ok (let q : Result Unit Refusal = if not b then Err refusal.BadValue else if o then Err refusal.Busy else if r then Err refusal.Resting else if n && m then Ok tt else Err refusal.Full in q) ≡ (not o && (not r && (n && m)))
 answer_not b o r n m e = grind (arith, e)
@@ -353,7 +353,7 @@ boxes_are own boxes (Moves a ∷ E) =
     let h = boxes_are own boxes E in cond_both (can_move a (after own boxes E)) (record (after own boxes E) { own = a }) (after own boxes E) (λ (s : TransfersRecord). s.boxes ≡ boxes) (λ e. h) (λ e. h)
 boxes_are own boxes (event ∷ E) = boxes_are own boxes E
 
-module _ (w : Who) (H : List Call) (now group to : ℕ) (bytes : List ℕ) (right : AreAnswered w H) where
+module _ (w : Who) (H : List Call) (now priority group to : ℕ) (bytes : List ℕ) (right : AreAnswered w H) where
   abbrev pub Limit : Type 0
   Limit =
       (length (all_transfers w H) ≡ 18446744073709551615)
@@ -361,17 +361,17 @@ module _ (w : Who) (H : List Call) (now group to : ℕ) (bytes : List ℕ) (righ
       ⊎ ((w.transfers ≤ length (transfers_at w H).running)
       ⊎ (2 * w.transfers ≤ length (resting_at w H now) + length (transfers_at w H).running))))
 
-  refused_is : can_transfer w group to bytes ≡ true → is_refused_now w H now group to bytes
+  refused_is : can_transfer w priority group to bytes ≡ true → is_refused_now w H now priority group to bytes
       ≡ (nat_eq (length (all_transfers w H)) 18446744073709551615 || not (not (is_open to (transfers_at w H).running) && (not (is_resting w H now group to)
       && (nat_lt (length (transfers_at w H).running) w.transfers && nat_lt (length (resting_at w H now) + length (transfers_at w H).running) (2 * w.transfers)))))
   refused_is e =
       ap (λ (b : Bool). nat_eq (length (all_transfers w H)) 18446744073709551615 || not b)
-      (answer_not (can_begin (transfers_at w H).own (order (length (all_transfers w H)) group to bytes)) (is_open to (transfers_at w H).running) (is_resting w H now group to)
-      (nat_lt (length (transfers_at w H).running) (transfers_at w H).boxes) (nat_lt (length (resting_at w H now) + length (transfers_at w H).running) (2 * (transfers_at w H).boxes)) (begin_so w H group to bytes right e)
+      (answer_not (can_begin (transfers_at w H).own (order (length (all_transfers w H)) priority group to bytes)) (is_open to (transfers_at w H).running) (is_resting w H now group to)
+      (nat_lt (length (transfers_at w H).running) (transfers_at w H).boxes) (nat_lt (length (resting_at w H now) + length (transfers_at w H).running) (2 * (transfers_at w H).boxes)) (begin_so w H priority group to bytes right e)
       ∙ ap (λ (n : ℕ). not (is_open to (transfers_at w H).running) && (not (is_resting w H now group to) && (nat_lt (length (transfers_at w H).running) n && nat_lt (length (resting_at w H now) + length (transfers_at w H).running) (2 * n))))
       (boxes_are 0 w.transfers (transfer_events w H)))
 
-  pub limits : can_transfer w group to bytes ≡ true → is_refused_now w H now group to bytes ≡ true → Limit
+  pub limits : can_transfer w priority group to bytes ≡ true → is_refused_now w H now priority group to bytes ≡ true → Limit
   limits c e = go _ _ _ _ _ refl refl refl refl refl (sym (refused_is c) ∙ e)
     where
       go : (l o r n m : Bool) → nat_eq (length (all_transfers w H)) 18446744073709551615 ≡ l → is_open to (transfers_at w H).running ≡ o → is_resting w H now group to ≡ r
@@ -384,7 +384,7 @@ module _ (w : Who) (H : List Call) (now group to : ℕ) (bytes : List ℕ) (righ
       go false false false true false a b c d f e = inr (inr (inr (inr (ltb-false _ _ f))))
       go false false false true true a b c d f e = absurd (cc)
 
-  pub free : can_transfer w group to bytes ≡ true → is_refused_now w H now group to bytes ≡ false → Limit → ⊥
+  pub free : can_transfer w priority group to bytes ≡ true → is_refused_now w H now priority group to bytes ≡ false → Limit → ⊥
   free c e p = go _ _ _ _ _ refl refl refl refl refl (sym (refused_is c) ∙ e) p
     where
       go : (l o r n m : Bool) → nat_eq (length (all_transfers w H)) 18446744073709551615 ≡ l → is_open to (transfers_at w H).running ≡ o → is_resting w H now group to ≡ r
@@ -401,16 +401,16 @@ pub refused_full : {P : Type 0} (a b f : Bool) (x : ℕ) (answer : Result ℕ Re
     → (answer ≡ Err Full ↔ (IsTrue a × IsTrue b × P))
 refused_full a b f x answer e g i = grind (arith, e, g, i)
 
-pub is_accepted : (w : Who) (H : List Call) (c : Controller) (now group to : ℕ) (bytes : List ℕ) (answer : Result ℕ Refused)
-    → Is w (At now (Transfer group to bytes answer) ∷ H) c → IsTrue (holds w H now) → IsTrue (can_transfer w group to bytes)
+pub is_accepted : (w : Who) (H : List Call) (c : Controller) (now priority group to : ℕ) (bytes : List ℕ) (answer : Result ℕ Refused)
+    → Is w (At now (Transfer priority group to bytes answer) ∷ H) c → IsTrue (holds w H now) → IsTrue (can_transfer w priority group to bytes)
     → length (all_transfers w H) < 18446744073709551615 → is_open to (transfers_at w H).running ≡ false
     → is_resting w H now group to ≡ false → length (transfers_at w H).running < w.transfers
     → length (resting_at w H now) + length (transfers_at w H).running < 2 * w.transfers → answer ≡ Ok (length (all_transfers w H))
-is_accepted w H c now group to bytes answer is held can tokens alive rested boxes places =
-    cases.is_accepted (holds w H now) (can_transfer w group to bytes) (is_refused_now w H now group to bytes) (length (all_transfers w H)) answer is.answered.1 held can
-    (λ f. no (limits w H now group to bytes is.answered.0 can f))
+is_accepted w H c now priority group to bytes answer is held can tokens alive rested boxes places =
+    cases.is_accepted (holds w H now) (can_transfer w priority group to bytes) (is_refused_now w H now priority group to bytes) (length (all_transfers w H)) answer is.answered.1 held can
+    (λ f. no (limits w H now priority group to bytes is.answered.0 can f))
   where
-    no : Limit w H now group to bytes is.answered.0 → ⊥
+    no : Limit w H now priority group to bytes is.answered.0 → ⊥
     no (inl x) = omega (arith, x, tokens)
     no (inr (inl x)) = not_both _ alive x
     no (inr (inr (inl x))) = not_both _ rested x

@@ -469,10 +469,10 @@ module _ (w : Who) (B : List Call) (g k to : ℕ) (m : MessageRecord) (since : L
       (λ e r. found_so (At now (TakeFrame None)) later now h short p.0 e refl r (pace.rests now later _ r.base r.waited)
       (λ d. absurd (not_both _ (none_open_due w to (later ++ B) now d.1.0 (none_next w (later ++ B) now (held_older (step (later ++ B) now) (address_after w (later ++ B)) e) a).transfer d.1.1) d.1.2)))
       h.course)
-  one_more (At now (Transfer group at bytes answer)) later right a n p short h =
-      goes_on (At now (Transfer group at bytes answer)) later h h.running (open_stays w to now group at bytes answer (later ++ B) h.running h.is) refl (refl, refl)
-      (on_course w (later ++ B) (At now (Transfer group at bytes answer)) (keeps_held w (later ++ B) (At now (Transfer group at bytes answer)) refl refl) (λ y. y)
-      (λ e r. inr (rests_on (At now (Transfer group at bytes answer)) later h.running refl r)) h.course)
+  one_more (At now (Transfer priority group at bytes answer)) later right a n p short h =
+      goes_on (At now (Transfer priority group at bytes answer)) later h h.running (open_stays w to now priority group at bytes answer (later ++ B) h.running h.is) refl (refl, refl)
+      (on_course w (later ++ B) (At now (Transfer priority group at bytes answer)) (keeps_held w (later ++ B) (At now (Transfer priority group at bytes answer)) refl refl) (λ y. y)
+      (λ e r. inr (rests_on (At now (Transfer priority group at bytes answer)) later h.running refl r)) h.course)
   one_more (TakeTransferEnded (Some x)) later right a n p short h =
       goes_on (TakeTransferEnded (Some x)) later h h.running (tells_one x later a n h) refl (refl, refl)
       (on_course w (later ++ B) (TakeTransferEnded (Some x)) (keeps_held w (later ++ B) (TakeTransferEnded (Some x)) refl refl) (λ y. y)
@@ -504,15 +504,15 @@ module _ (w : Who) (B : List Call) (g k to : ℕ) (m : MessageRecord) (since : L
 
 -- ---- it begins
 
-pub first_of : (w : Who) (earlier : List Call) (g now group to k : ℕ) (bytes : List ℕ) (since : List Call → List Call → ℕ) (Paid : List Call → ℕ → ℕ → ℕ → ℕ → Type 0) (limit : List Call → ℕ)
-    (pace : Pace w (At now (Transfer group to bytes (Ok k)) ∷ earlier) g (packets_of (broadcast_from w group bytes) + 65) to since Paid limit)
-    → AreAnswered w (At now (Transfer group to bytes (Ok k)) ∷ earlier) → Paid [] 0 0 0 0
-    → Stands w (At now (Transfer group to bytes (Ok k)) ∷ earlier) g k to (broadcast_from w group bytes) since Paid limit pace []
-first_of w earlier g now group to k bytes since Paid limit pace right paid =
-    let B = At now (Transfer group to bytes (Ok k)) ∷ earlier in
-    let fit = transfer_accepts w earlier now group to k bytes right.1 in
-    begins w B g k to (broadcast_from w group bytes) since Paid limit pace fit.0 (order (length (all_transfers w earlier)) group to bytes) (holder w earlier to) (clock_at w earlier now)
-    (open_begun w now group to k bytes earlier right.0 right.1).1 (sym fit.3) refl refl paid
+pub first_of : (w : Who) (earlier : List Call) (g now priority group to k : ℕ) (bytes : List ℕ) (since : List Call → List Call → ℕ) (Paid : List Call → ℕ → ℕ → ℕ → ℕ → Type 0) (limit : List Call → ℕ)
+    (pace : Pace w (At now (Transfer priority group to bytes (Ok k)) ∷ earlier) g (packets_of (broadcast_from w group bytes) + 65) to since Paid limit)
+    → AreAnswered w (At now (Transfer priority group to bytes (Ok k)) ∷ earlier) → Paid [] 0 0 0 0
+    → Stands w (At now (Transfer priority group to bytes (Ok k)) ∷ earlier) g k to (broadcast_from w group bytes) since Paid limit pace []
+first_of w earlier g now priority group to k bytes since Paid limit pace right paid =
+    let B = At now (Transfer priority group to bytes (Ok k)) ∷ earlier in
+    let fit = transfer_accepts w earlier now priority group to k bytes right.1 in
+    begins w B g k to (broadcast_from w group bytes) since Paid limit pace fit.0 (order (length (all_transfers w earlier)) priority group to bytes) (holder w earlier to) (clock_at w earlier now)
+    (open_begun w now priority group to k bytes earlier right.0 right.1).1 (sym fit.3) refl refl paid
 
 -- ---- to a driver that takes all
 
@@ -542,18 +542,18 @@ module _ (w : Who) (B : List Call) (g most to : ℕ) where
     older = λ later n base waited streak age s l a p h. (let x = h.1.all_most in let b = times_more n most g l in let d = mul-add most timer_t3 g in omega (arith, a, x, b, d, p));
   }
 
-pub transfer_ends : (w : Who) (later earlier : List Call) (c : Controller) (g now group to k : ℕ) (bytes : List ℕ)
-    → Is w (later ++ At now (Transfer group to bytes (Ok k)) ∷ earlier) c → NoneTold (tells_transfer k) later
-    → IsPrompt g later (At now (Transfer group to bytes (Ok k)) ∷ earlier)
-    → age w (later ++ At now (Transfer group to bytes (Ok k)) ∷ earlier) < 9000000000000000
-    → (packets_of (broadcast_from w group bytes) + 65) * (timer_t3 + g) + g < passed_in later (At now (Transfer group to bytes (Ok k)) ∷ earlier)
-    → (x : Running) × (open_to w to (later ++ At now (Transfer group to bytes (Ok k)) ∷ earlier) ≡ Some x) × (x.token ≡ k)
-    × IsTrue (is_over x) × (next_transfer_ended w (later ++ At now (Transfer group to bytes (Ok k)) ∷ earlier) ≢ None)
-transfer_ends w later earlier c g now group to k bytes is none paced short l =
-    let B = At now (Transfer group to bytes (Ok k)) ∷ earlier in
+pub transfer_ends : (w : Who) (later earlier : List Call) (c : Controller) (g now priority group to k : ℕ) (bytes : List ℕ)
+    → Is w (later ++ At now (Transfer priority group to bytes (Ok k)) ∷ earlier) c → NoneTold (tells_transfer k) later
+    → IsPrompt g later (At now (Transfer priority group to bytes (Ok k)) ∷ earlier)
+    → age w (later ++ At now (Transfer priority group to bytes (Ok k)) ∷ earlier) < 9000000000000000
+    → (packets_of (broadcast_from w group bytes) + 65) * (timer_t3 + g) + g < passed_in later (At now (Transfer priority group to bytes (Ok k)) ∷ earlier)
+    → (x : Running) × (open_to w to (later ++ At now (Transfer priority group to bytes (Ok k)) ∷ earlier) ≡ Some x) × (x.token ≡ k)
+    × IsTrue (is_over x) × (next_transfer_ended w (later ++ At now (Transfer priority group to bytes (Ok k)) ∷ earlier) ≢ None)
+transfer_ends w later earlier c g now priority group to k bytes is none paced short l =
+    let B = At now (Transfer priority group to bytes (Ok k)) ∷ earlier in
     let m = broadcast_from w group bytes in
     let x = prompt w B g (packets_of m + 65) to in
     ends_then w B g k to m waited_in (Paid w B g (packets_of m + 65) to) (λ later. (packets_of m + 65) * (timer_t3 + g) + g) x later is.answered none paced short
-    (first_of w earlier g now group to k bytes waited_in (Paid w B g (packets_of m + 65) to) (λ later. (packets_of m + 65) * (timer_t3 + g) + g) x (answered_from w later B is.answered)
+    (first_of w earlier g now priority group to k bytes waited_in (Paid w B g (packets_of m + 65) to) (λ later. (packets_of m + 65) * (timer_t3 + g) + g) x (answered_from w later B is.answered)
     (refl, record { base_most = omega arith; all_most = omega arith; paid_most = omega arith; streak_most = omega arith; few = omega arith }))
     l (waited_last g later B paced)

@@ -97,8 +97,8 @@ module _ (w : Who) (a : ℕ) where
       → length (told_transfers (call ∷ [])) + Place (call ∷ H) ≤ Place H
   falls (At now (Hear f)) H x right e o n = let h = heard_place H (is_lost (address_after w (At now (Hear f) ∷ H))) (clock_at w H now) (holder w (At now (Hear f) ∷ H)) f in omega (arith, h)
   falls (At now (TakeFrame (Some f))) H x right e o n = let h = taken_place H now f x right e o (is_claim f) (is_move w H f) refl in omega (arith, h)
-  falls (At now (Transfer group to bytes r)) H x right e o n =
-      let h = tried_place H (order (length (all_transfers w H)) group to bytes) (holder w H to) (clock_at w H now) x e (is_tried r (nat_eq (length (all_transfers w H)) 18446744073709551615)) in omega (arith, h)
+  falls (At now (Transfer priority group to bytes r)) H x right e o n =
+      let h = tried_place H (order (length (all_transfers w H)) priority group to bytes) (holder w H to) (clock_at w H now) x e (is_tried r (nat_eq (length (all_transfers w H)) 18446744073709551615)) in omega (arith, h)
   falls (TakeTransferEnded (Some y)) H x right e o n = let h = told_place H y x (open_told w H y right.1) e o n in omega (arith, h)
   falls call H x right e o n = omega arith
 

@@ -58,6 +58,7 @@ pub mod TransferLaws
 pub mod TransferEnds
 pub mod CountLaws
 pub mod InTurn
+pub mod UrgencyLaws
 -- the laws of broadcasts in packets that are heard
 pub mod HearingLaws
 pub mod ApartLaws

@@ -81,7 +81,7 @@ moved_more w a H call o q (claims now f x c m) h =
 moved_more w a H call o q (sends now f s z m) h =
     subst (Moved (sent_in_one (clock_at w H now) s.running).sender) (sym (ap (λ (b : Bool). if b then moves w a H ++ message_of f ∷ [] else moves w a H) m ∙ ap (λ (x : Message). moves w a H ++ x ∷ []) s.frame))
     (signal_parts s.running (clock_at w H now) (moves w a H) s.signal h s.said)
-moved_more w a H call o q (starts now group to k bytes e z) h =
+moved_more w a H call o q (starts now priority group to k bytes e z) h =
     subst (Moved (new_sender (broadcast_from w group bytes) to)) (sym (ap (λ (b : Bool). if b then [] else moves w a H) (eq-eqb to a z))) (moved_new (broadcast_from w group bytes) to)
 moved_more w a H call o q (ends e t z) h = tt
 moved_more w a H call o q (stays c x b m n i t u) h = subst (MovedIf x) (sym m) h
@@ -105,7 +105,7 @@ ListedIf w a H None = Unit {0}
 ListedIf w a H (Some x) = Listed w a H x
 
 grows : (w : Who) (call : Call) (H : List Call) (k : ℕ) (y : ℕ × MessageRecord) → slice_get (all_transfers w H) k ≡ Some y → slice_get (all_transfers w (call ∷ H)) k ≡ Some y
-grows w (At now (Transfer group to bytes (Ok j))) H k y e = get_front (all_transfers w H) ((to, broadcast_from w group bytes) ∷ []) k y e
+grows w (At now (Transfer priority group to bytes (Ok j))) H k y e = get_front (all_transfers w H) ((to, broadcast_from w group bytes) ∷ []) k y e
 grows w call H k y e = e
 
 listed_so : (w : Who) (a : ℕ) (call : Call) (H : List Call) (old new : Running) → Listed w a H old → new.token ≡ old.token → new.sender.message ≡ old.sender.message
@@ -129,9 +129,9 @@ other_token w a b H x y h k e =
     let z : Some (a, x.sender.message) ≡ Some (b, y.sender.message) = sym h.at ∙ (ap (slice_get (all_transfers w H)) e ∙ k.at) in
     ap (λ (p : ℕ × MessageRecord). p.0) (same_Some _ _ z)
 
-begun_listed : (w : Who) (H : List Call) (now group to k : ℕ) (bytes : List ℕ) → Unused w H → Listed w to (At now (Transfer group to bytes (Ok k)) ∷ H) (begun_to w H now group to bytes)
+begun_listed : (w : Who) (H : List Call) (now priority group to k : ℕ) (bytes : List ℕ) → Unused w H → Listed w to (At now (Transfer priority group to bytes (Ok k)) ∷ H) (begun_to w H now priority group to bytes)
 unfolding new_sender
-begun_listed w H now group to k bytes free = record {
+begun_listed w H now priority group to k bytes free = record {
   at = get_last (all_transfers w H) (to, broadcast_from w group bytes);
   untold = (refl, free (length (all_transfers w H)) (omega arith));
 }
@@ -146,9 +146,9 @@ listed_more w a H call o q (claims now f x c m) all free h =
     (λ y. (left_same (holder w (At now (TakeFrame (Some f)) ∷ H)) (clock_at w H now) y, (keeps_left None (holder w (At now (TakeFrame (Some f)) ∷ H)) (clock_at w H now) y).1)) (λ k. refl) h
 listed_more w a H call o q (sends now f s z m) all free h =
     listed_so w a (At now (TakeFrame (Some f))) H s.running (sent_in_one (clock_at w H now) s.running) h refl (sent_same (clock_at w H now) s.running).1 refl
-listed_more w a H call o q (starts now group to k bytes e z) all free h =
-    subst (λ (n : ℕ). Listed w n (At now (Transfer group to bytes (Ok k)) ∷ H) (begun_to w H now group to bytes)) z
-    (begun_listed w H now group to k bytes free)
+listed_more w a H call o q (starts now priority group to k bytes e z) all free h =
+    subst (λ (n : ℕ). Listed w n (At now (Transfer priority group to bytes (Ok k)) ∷ H) (begun_to w H now priority group to bytes)) z
+    (begun_listed w H now priority group to k bytes free)
 listed_more w a H call o q (ends e t z) all free h = tt
 listed_more w a H call None q (stays c x b m n i t u) all free h = h
 listed_more w a H call (Some y) q (stays c x b m n i t u) all free h =
@@ -167,7 +167,7 @@ accounted w (call ∷ H) e =
     (λ a. listed_more w a H call (open_to w a H) (open_to w a (call ∷ H)) (change w a call H e) h.0 h.1 (h.0 a), go call e.1 h.0 h.1)
   where
     go : (call : Call) → Rattle.j39_node.specs.Is.IsAnswered w H call → ((a : ℕ) → ListedIf w a H (open_to w a H)) → Unused w H → Unused w (call ∷ H)
-    go (At now (Transfer group to bytes (Ok j))) i all free = λ k l. (refl, free k (let n = length_one_more (all_transfers w H) (to, broadcast_from w group bytes) in omega (arith, l, n)))
+    go (At now (Transfer priority group to bytes (Ok j))) i all free = λ k l. (refl, free k (let n = length_one_more (all_transfers w H) (to, broadcast_from w group bytes) in omega (arith, l, n)))
     go (TakeTransferEnded (Some x)) i all free = λ k l.
         let t = open_told w H x i in
         let p = subst (ListedIf w (to_whom t.running) H) t.is (all (to_whom t.running)) in
@@ -196,7 +196,7 @@ now_so a So H call s = record { later = []; call = call; earlier = H; is = refl;
 
 -- what isn't so of a transfer that begins, and is so after a call where it was before, or where the call says so
 pub record Arises (w : Who) (a : ℕ) (Q : Running → Type 0) (So : MessageRecord → List Call → Call → Type 0) : Type 0 where
-  pub begins_not : (H : List Call) (now group : ℕ) (bytes : List ℕ) → Q (begun_to w H now group a bytes) → ⊥
+  pub begins_not : (H : List Call) (now priority group : ℕ) (bytes : List ℕ) → Q (begun_to w H now priority group a bytes) → ⊥
   pub by_hearing : (H : List Call) (when : ℕ) (f : FrameRecord) (x : Running) → AreAnswered w H → open_to w a H ≡ Some x
       → Q (heard_open (is_lost (address_after w (At when (Hear f) ∷ H))) (holder w (At when (Hear f) ∷ H)) f (clock_at w H when) x)
       → Q x ⊎ So x.sender.message H (At when (Hear f))
@@ -227,8 +227,8 @@ module _ (w : Who) (a : ℕ) (Q : Running → Type 0) (So : MessageRecord → Li
       let z = same_Some (sent_in_one (clock_at w H now) s.running) x e in
       arose H (At now (TakeFrame (Some f))) s.running x refl (ap (λ (v : Running). v.sender.message) (sym z) ∙ (sent_same (clock_at w H now) s.running).1)
       (arises.by_sending H now f s right i (subst Q (sym z) p)) (rec s.running refl)
-  traced_more H call o q (starts now group to k bytes i z) x right g e p rec =
-      absurd (arises.begins_not H now group bytes (subst (λ (n : ℕ). Q (begun_to w H now group n bytes)) z (subst Q (sym (same_Some (begun_to w H now group to bytes) x e)) p)))
+  traced_more H call o q (starts now priority group to k bytes i z) x right g e p rec =
+      absurd (arises.begins_not H now priority group bytes (subst (λ (n : ℕ). Q (begun_to w H now priority group n bytes)) z (subst Q (sym (same_Some (begun_to w H now priority group to bytes) x e)) p)))
   traced_more H call o q (ends i t z) x right g e p rec = absurd (cc)
   traced_more H call o q (stays c y b m n i t u) x right g e p rec = later_on a (So x.sender.message) H c b (rec x e p)
 

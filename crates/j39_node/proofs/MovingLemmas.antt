@@ -1,5 +1,5 @@
 -- When a controller may move, by what it has; and what it is then.
-use Rattle.j39_node.proofs.Common.{[], accepted, and_parts, ap, arith, asked_by, AskEnding, asking_of, Bool, Call, Claim, Claims, Controller, eqb-true, false, got, handed, has_given, has_told, HasMoved, hearing_of, HearingRecord, hold_after, hold_moved, holder_in, incoming_of, IncomingRecord, Is, IsHolderAfter, IsLeastFree, IsSettled, kept, Knows, lane_of, later, length, length-map, List, loses, map, message_by, moment, moved, name_raw, nat_eq, news_of, None, none_of, NoneFree, not, Option, option_map, port_of, PortRecord, posted, Question, received_by, refl, refusal_by, request_by, requests, sender_by, subst, sym, told, told_claims, true, Untold, View, Who, ℕ, ◌&&◌, ◌+◌, ◌-◌, ◌<◌, ◌||◌, ◌∙◌, ◌∷◌, ◌≡◌, ◌≢◌, ◌≤◌, age, At, min, ltb-true, nat_lt, transfers_at}
+use Rattle.j39_node.proofs.Common.{[], accepted, and_parts, ap, arith, asked_by, asker_by, AskEnding, asking_of, Bool, Call, Claim, Claims, Controller, eqb-true, false, got, handed, has_given, has_told, HasMoved, hearing_of, HearingRecord, hold_after, hold_moved, holder_in, incoming_of, IncomingRecord, Is, IsHolderAfter, IsLeastFree, IsSettled, kept, Knows, lane_of, later, length, length-map, List, loses, map, message_by, moment, moved, name_raw, nat_eq, news_of, None, none_of, NoneFree, not, Option, option_map, port_of, PortRecord, posted, Question, received_by, refl, refusal_by, request_by, requests, sender_by, subst, sym, told, told_claims, true, Untold, View, Who, ℕ, ◌&&◌, ◌+◌, ◌-◌, ◌<◌, ◌||◌, ◌∙◌, ◌∷◌, ◌≡◌, ◌≢◌, ◌≤◌, age, At, min, ltb-true, nat_lt, transfers_at}
 use Rattle.j39_transfers.specs.Transfers.{can_move, moves}
 use Rattle.j39_node.specs.Boxes.{in_box}
 use Rattle.std.specs.Option.{is_some}
@@ -143,6 +143,7 @@ begins_anew w H old new a h e o1 o2 o5 o3 o4 o6 o7 o9 o8 q1 q2 q3 q4 q5 q6 q7 q8
         unread = (ap (λ x. map received_by x.items) q6 ∙ nothing received_by old.inbox.unread.items g.0) i;
         senders = (ap (λ x. map sender_by x.items) q6 ∙ nothing sender_by old.inbox.unread.items g.0) i;
         requests = (ap (λ x. map request_by x.items) q8 ∙ nothing request_by old.desk.waiting.items g2.0) i;
+        askers = (ap (λ x. map asker_by x.items) q8 ∙ nothing asker_by old.desk.waiting.items g2.0) i;
         acknowledgments = map (refusal_by (moved w H a)) (q9 i);
         news = (q10 ∙ none_untold old.news g4.1) i;
         missed = q7 i;

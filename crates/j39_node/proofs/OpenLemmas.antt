@@ -116,8 +116,8 @@ open_sent_other w a now f H y e m t n =
 -- ---- a transfer is accepted, or refused
 
 -- how one begins
-abbrev pub begun_to : Who → List Call → ℕ → ℕ → ℕ → List ℕ → Running
-begun_to w H now group to bytes = begun w.address (order (length (all_transfers w H)) group to bytes) (holder w H to) (clock_at w H now)
+abbrev pub begun_to : Who → List Call → ℕ → ℕ → ℕ → ℕ → List ℕ → Running
+begun_to w H now priority group to bytes = begun w.address (order (length (all_transfers w H)) priority group to bytes) (holder w H to) (clock_at w H now)
 
 ok_of : (r : Result (Unit {0}) Refusal) → is_ok r ≡ true → r ≡ Ok tt
 ok_of (Ok u) e = refl
@@ -127,19 +127,19 @@ not_not : (b : Bool) → not b ≡ false → b ≡ true
 not_not true e = refl
 not_not false e = absurd (cc)
 
-pub open_begun : (w : Who) (now group to k : ℕ) (bytes : List ℕ) (H : List Call) → AreAnswered w H → Ok k ≡ answer_to_transfer w H now group to bytes
-    → (open_to w to H ≡ None) × (open_to w to (At now (Transfer group to bytes (Ok k)) ∷ H) ≡ Some (begun_to w H now group to bytes))
+pub open_begun : (w : Who) (now priority group to k : ℕ) (bytes : List ℕ) (H : List Call) → AreAnswered w H → Ok k ≡ answer_to_transfer w H now priority group to bytes
+    → (open_to w to H ≡ None) × (open_to w to (At now (Transfer priority group to bytes (Ok k)) ∷ H) ≡ Some (begun_to w H now priority group to bytes))
 unfolding new_sender
-open_begun w now group to k bytes H right e = (none, begins_so)
+open_begun w now priority group to k bytes H right e = (none, begins_so)
   where
     o : Order
-    o = order (length (all_transfers w H)) group to bytes
+    o = order (length (all_transfers w H)) priority group to bytes
 
     s : TransfersRecord
     s = awake (clock_at w H now) (transfers_at w H)
 
     ok : answer o s ≡ Ok tt
-    ok = ok_of (answer o s) (not_not (is_ok (answer o s)) (or_parts (nat_eq (length (all_transfers w H)) 18446744073709551615) (not (is_ok (answer o s))) (transfer_accepts w H now group to k bytes e).2).1)
+    ok = ok_of (answer o s) (not_not (is_ok (answer o s)) (or_parts (nat_eq (length (all_transfers w H)) 18446744073709551615) (not (is_ok (answer o s))) (transfer_accepts w H now priority group to k bytes e).2).1)
 
     none : of_whom to (transfers_at w H).running ≡ None
     none = not_open to (transfers_at w H).running (answered o s tt ok).0
@@ -150,29 +150,29 @@ open_begun w now group to k bytes H right e = (none, begins_so)
     last : of_whom to ((transfers_at w H).running ++ x ∷ []) ≡ Some x
     last = of_append to (transfers_at w H).running (x ∷ []) none ∙ (let t = to_begun (transfers_at w H).own o (holder w H to) (clock_at w H now) in grind (arith, t))
 
-    begins_so : of_whom to (begun_if (answer o s) x s).running ≡ Some (begun_to w H now group to bytes)
+    begins_so : of_whom to (begun_if (answer o s) x s).running ≡ Some (begun_to w H now priority group to bytes)
     begins_so =
         ap (λ (r : Result (Unit {0}) Refusal). of_whom to (begun_if r x s).running) ok
         ∙ (last ∙ ap (λ (n : ℕ). (let q : Option Running = Some (begun n o (holder w H to) (clock_at w H now)) in q)) (own_is w H right))
 
-pub open_begun_other : (w : Who) (a now group to : ℕ) (bytes : List ℕ) (answer : Result ℕ Refused) (H : List Call) → to ≢ a
-    → open_to w a (At now (Transfer group to bytes answer) ∷ H) ≡ open_to w a H
-open_begun_other w a now group to bytes answer H n = go (is_tried answer (nat_eq (length (all_transfers w H)) 18446744073709551615))
+pub open_begun_other : (w : Who) (a now priority group to : ℕ) (bytes : List ℕ) (answer : Result ℕ Refused) (H : List Call) → to ≢ a
+    → open_to w a (At now (Transfer priority group to bytes answer) ∷ H) ≡ open_to w a H
+open_begun_other w a now priority group to bytes answer H n = go (is_tried answer (nat_eq (length (all_transfers w H)) 18446744073709551615))
   where
     o : Order
-    o = order (length (all_transfers w H)) group to bytes
+    o = order (length (all_transfers w H)) priority group to bytes
 
     go : (b : Bool) → of_whom a (after 0 w.transfers (tried_events b (Begins o (holder w H to) (clock_at w H now)) (transfer_events w H))).running ≡ open_to w a H
     go true = begun_another (transfers_at w H) (clock_at w H now) a o (holder w H to) n
     go false = refl
 
 -- one that is open stays
-pub open_stays : (w : Who) (a now group to : ℕ) (bytes : List ℕ) (answer : Result ℕ Refused) (H : List Call) (x : Running) → open_to w a H ≡ Some x
-    → open_to w a (At now (Transfer group to bytes answer) ∷ H) ≡ Some x
-open_stays w a now group to bytes answer H x e = go (is_tried answer (nat_eq (length (all_transfers w H)) 18446744073709551615))
+pub open_stays : (w : Who) (a now priority group to : ℕ) (bytes : List ℕ) (answer : Result ℕ Refused) (H : List Call) (x : Running) → open_to w a H ≡ Some x
+    → open_to w a (At now (Transfer priority group to bytes answer) ∷ H) ≡ Some x
+open_stays w a now priority group to bytes answer H x e = go (is_tried answer (nat_eq (length (all_transfers w H)) 18446744073709551615))
   where
     o : Order
-    o = order (length (all_transfers w H)) group to bytes
+    o = order (length (all_transfers w H)) priority group to bytes
 
     front : (xs : List Running) (y : Running) → of_whom a xs ≡ Some x → of_whom a (xs ++ y ∷ []) ≡ Some x
     front [] y i = absurd (cc)

@@ -127,18 +127,18 @@ stands w (At now (TakeFrame (Some f)) ∷ H) e = go (is_claim f) (is_move w H f)
     go true m h = stands_left w (holder w (At now (TakeFrame (Some f)) ∷ H)) (clock_at w H now) (transfers_at w H) h
     go false true h = stands_sent w (clock_at w H now) (transfers_at w H) h
     go false false h = h
-stands w (At now (Transfer group to bytes answer) ∷ H) e = go (is_tried answer last) refl (stands w H e.0)
+stands w (At now (Transfer priority group to bytes answer) ∷ H) e = go (is_tried answer last) refl (stands w H e.0)
   where
     last : Bool
     last = nat_eq (length (all_transfers w H)) 18446744073709551615
 
     o : Order
-    o = order (length (all_transfers w H)) group to bytes
+    o = order (length (all_transfers w H)) priority group to bytes
 
     go : (b : Bool) → is_tried answer last ≡ b → Stands w (transfers_at w H)
         → Stands w (after 0 w.transfers (tried_events b (Begins o (holder w H to) (clock_at w H now)) (transfer_events w H)))
     go true t h =
-        let c = both (can_broadcast group bytes) _ (transfer_tried w H now group to bytes answer last e.1 t) in
+        let c = both (can_broadcast group bytes) _ (both (nat_lt priority 8) _ (transfer_tried w H now priority group to bytes answer last e.1 t)).1 in
         stands_begun w o (holder w H to) (clock_at w H now) (transfers_at w H) h (ltb-true _ _ (both (nat_lt to 254) _ c.1).0)
     go false t h = h
 stands w (TakeTransferEnded (Some x) ∷ H) e = let h = stands w H e.0 in record { own = h.own; ported = ported_others w is_over (transfers_at w H).running h.ported }

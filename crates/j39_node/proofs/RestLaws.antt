@@ -28,10 +28,10 @@ grown_one w (At now (TakeFrame (Some f))) H n l = go (is_claim f) (is_move w H f
     go true m = (Rattle.j39_transfers.specs.Events.Leaves None (holder w (At now (TakeFrame (Some f)) ∷ H)) (clock_at w H now) ∷ [], refl, (tt, tt))
     go false true = (Rattle.j39_transfers.specs.Events.Sends (clock_at w H now) ∷ [], refl, (tt, tt))
     go false false = ([], refl, tt)
-grown_one w (At now (Transfer group to bytes answer)) H n l = go (is_tried answer (nat_eq (length (all_transfers w H)) 18446744073709551615))
+grown_one w (At now (Transfer priority group to bytes answer)) H n l = go (is_tried answer (nat_eq (length (all_transfers w H)) 18446744073709551615))
   where
     event : Event
-    event = Begins (order (length (all_transfers w H)) group to bytes) (holder w H to) (clock_at w H now)
+    event = Begins (order (length (all_transfers w H)) priority group to bytes) (holder w H to) (clock_at w H now)
 
     go : (b : Bool) → (D : List Event) × (tried_events b event (transfer_events w H) ≡ D ++ transfer_events w H) × AreBy n D
     go true = (event ∷ [], refl, (l, tt))
@@ -146,10 +146,10 @@ module _ (w : Who) (n group to : ℕ) where
       go true m h = skips (Rattle.j39_transfers.specs.Events.Leaves None (holder w (At now (TakeFrame (Some f)) ∷ H)) (clock_at w H now)) (transfer_events w H) (λ z. absurd (cc)) h
       go false true h = skips (Rattle.j39_transfers.specs.Events.Sends (clock_at w H now)) (transfer_events w H) (λ z. absurd (cc)) h
       go false false h = h
-  comes_from (At now (Transfer group to bytes answer) ∷ H) h = more (At now (Transfer group to bytes answer)) H (comes_from H (go (is_tried answer (nat_eq (length (all_transfers w H)) 18446744073709551615)) h))
+  comes_from (At now (Transfer priority group to bytes answer) ∷ H) h = more (At now (Transfer priority group to bytes answer)) H (comes_from H (go (is_tried answer (nat_eq (length (all_transfers w H)) 18446744073709551615)) h))
     where
       event : Event
-      event = Begins (order (length (all_transfers w H)) group to bytes) (holder w H to) (clock_at w H now)
+      event = Begins (order (length (all_transfers w H)) priority group to bytes) (holder w H to) (clock_at w H now)
 
       go : (b : Bool) → Was (tried_events b event (transfer_events w H)) → Was (transfer_events w H)
       go true h = skips event (transfer_events w H) (λ z. absurd (cc)) h

@@ -210,20 +210,20 @@ module _ (w : Who) (B : List Call) (g most to : ℕ) where
         no_older g n most age h.paid base waited (since_take later B) streak h.others (turns (later ++ B)) (taken_for w later B) s (yields w (later ++ B)) l a p h.account;
   }
 
-pub transfer_goes : (w : Who) (later earlier : List Call) (c : Controller) (g now group to k : ℕ) (bytes : List ℕ)
-    → Is w (later ++ At now (Transfer group to bytes (Ok k)) ∷ earlier) c → NoneTold (tells_transfer k) later
-    → IsSteady g later (At now (Transfer group to bytes (Ok k)) ∷ earlier)
-    → age w (later ++ At now (Transfer group to bytes (Ok k)) ∷ earlier) < 9000000000000000
-    → (packets_of (broadcast_from w group bytes) + 65) * (timer_t3 + 3 * g) + (taken_for w later (At now (Transfer group to bytes (Ok k)) ∷ earlier) + 1) * (6 * g)
-    < passed_in later (At now (Transfer group to bytes (Ok k)) ∷ earlier)
-    → (x : Running) × (open_to w to (later ++ At now (Transfer group to bytes (Ok k)) ∷ earlier) ≡ Some x) × (x.token ≡ k)
-    × IsTrue (is_over x) × (next_transfer_ended w (later ++ At now (Transfer group to bytes (Ok k)) ∷ earlier) ≢ None)
-transfer_goes w later earlier c g now group to k bytes is none paced short l =
-    let B = At now (Transfer group to bytes (Ok k)) ∷ earlier in
+pub transfer_goes : (w : Who) (later earlier : List Call) (c : Controller) (g now priority group to k : ℕ) (bytes : List ℕ)
+    → Is w (later ++ At now (Transfer priority group to bytes (Ok k)) ∷ earlier) c → NoneTold (tells_transfer k) later
+    → IsSteady g later (At now (Transfer priority group to bytes (Ok k)) ∷ earlier)
+    → age w (later ++ At now (Transfer priority group to bytes (Ok k)) ∷ earlier) < 9000000000000000
+    → (packets_of (broadcast_from w group bytes) + 65) * (timer_t3 + 3 * g) + (taken_for w later (At now (Transfer priority group to bytes (Ok k)) ∷ earlier) + 1) * (6 * g)
+    < passed_in later (At now (Transfer priority group to bytes (Ok k)) ∷ earlier)
+    → (x : Running) × (open_to w to (later ++ At now (Transfer priority group to bytes (Ok k)) ∷ earlier) ≡ Some x) × (x.token ≡ k)
+    × IsTrue (is_over x) × (next_transfer_ended w (later ++ At now (Transfer priority group to bytes (Ok k)) ∷ earlier) ≢ None)
+transfer_goes w later earlier c g now priority group to k bytes is none paced short l =
+    let B = At now (Transfer priority group to bytes (Ok k)) ∷ earlier in
     let m = broadcast_from w group bytes in
     let x = steady w B g (packets_of m + 65) to in
     ends_then w B g k to m since_take (Paid w B g (packets_of m + 65) to) (λ later. limit g (packets_of m + 65) (taken_for w later B)) x later is.answered none paced short
-    (first_of w earlier g now group to k bytes since_take (Paid w B g (packets_of m + 65) to) (λ later. limit g (packets_of m + 65) (taken_for w later B)) x
+    (first_of w earlier g now priority group to k bytes since_take (Paid w B g (packets_of m + 65) to) (λ later. limit g (packets_of m + 65) (taken_for w later B)) x
     (answered_from w later B is.answered)
     (record { paid = 0; others = 0; account = record { base_most = omega arith; all_most = omega arith; paid_most = omega arith; streak_most = omega arith; few = omega arith } }))
     l (since_most g later B paced)

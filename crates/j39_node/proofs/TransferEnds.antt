@@ -117,9 +117,9 @@ named_more w a H call o q (sends now f s z m) g l h = record {
   over = λ i. elim (l i) [ inl y ↦ absurd (not_both _ (holding_not_lost w H now s.held) y) | inr y ↦ absurd (let k = y.2 in cc) ];
   broken = h.broken;
 }
-named_more w a H call o q (starts now group to k bytes e z) g l h = record {
+named_more w a H call o q (starts now priority group to k bytes e z) g l h = record {
   name = λ i. inl (ap (holder w H) z);
-  over = λ i. elim (l i) [ inl y ↦ absurd (not_both _ (holding_not_lost w H now (transfer_accepts w H now group to k bytes e).0) y) | inr y ↦ absurd (let k = y.2 in cc) ];
+  over = λ i. elim (l i) [ inl y ↦ absurd (not_both _ (holding_not_lost w H now (transfer_accepts w H now priority group to k bytes e).0) y) | inr y ↦ absurd (let k = y.2 in cc) ];
   broken = tt;
 }
 named_more w a H call o q (ends e t z) g l h = tt
@@ -178,7 +178,7 @@ lost_more w a H call o q (hears now f (Some x)) h = λ e.
 lost_more w a H call o q (claims now f None c m) h = h
 lost_more w a H call o q (claims now f (Some x) c m) h = λ e. lost_on w (At now (TakeFrame (Some f))) H (h (withdrawn_left (holder w (At now (TakeFrame (Some f)) ∷ H)) (clock_at w H now) x e))
 lost_more w a H call o q (sends now f s z m) h = λ e. lost_on w (At now (TakeFrame (Some f))) H (h e)
-lost_more w a H call o q (starts now group to k bytes e z) h = λ i. absurd (cc)
+lost_more w a H call o q (starts now priority group to k bytes e z) h = λ i. absurd (cc)
 lost_more w a H call o q (ends e t z) h = tt
 lost_more w a H call None q (stays c x b m n i t u) h = h
 lost_more w a H call (Some y) q (stays c x b m n i t u) h = λ e. lost_on w c H (h e)
@@ -211,7 +211,7 @@ module _ (w : Who) (a : ℕ) where
   pub done_arises : Arises w a (λ x. x.sender.state ≡ sending.Done) (λ m. Acknowledges w a m)
   unfolding new_sender
   done_arises = record {
-    begins_not = λ H now group bytes q. (let z : sending.Idle ≡ sending.Done = q in absurd (cc));
+    begins_not = λ H now priority group bytes q. (let z : sending.Idle ≡ sending.Done = q in absurd (cc));
     by_hearing = λ H when f x right e.
         heard_sender (λ (s : SenderRecord). s.state ≡ sending.Done → (x.sender.state ≡ sending.Done) ⊎ Acknowledges w a x.sender.message H (At when (Hear f)))
         (is_lost (address_after w (At when (Hear f) ∷ H))) (holder w (At when (Hear f) ∷ H)) f (clock_at w H when) x (λ q. inl q)
@@ -231,7 +231,7 @@ module _ (w : Who) (a : ℕ) where
   pub failed_arises : (r : ℕ) → Arises w a (λ x. x.sender.state ≡ sending.Failed r) (λ m. Aborts w r a m)
   unfolding new_sender
   failed_arises r = record {
-    begins_not = λ H now group bytes q. (let z : sending.Idle ≡ sending.Failed r = q in absurd (cc));
+    begins_not = λ H now priority group bytes q. (let z : sending.Idle ≡ sending.Failed r = q in absurd (cc));
     by_hearing = λ H when f x right e.
         heard_sender (λ (s : SenderRecord). s.state ≡ sending.Failed r → (x.sender.state ≡ sending.Failed r) ⊎ Aborts w r a x.sender.message H (At when (Hear f)))
         (is_lost (address_after w (At when (Hear f) ∷ H))) (holder w (At when (Hear f) ∷ H)) f (clock_at w H when) x (λ q. inl q)
@@ -276,7 +276,7 @@ module _ (w : Who) (a : ℕ) where
 
   pub gone_arises : Arises w a (λ x. x.broken ≡ Some how.Gone) (λ m. Replaces w a)
   gone_arises = record {
-    begins_not = λ H now group bytes q. absurd (cc);
+    begins_not = λ H now priority group bytes q. absurd (cc);
     by_hearing = λ H when f x right e. gone_heard (is_lost (address_after w (At when (Hear f) ∷ H))) (holder w (At when (Hear f) ∷ H)) f (clock_at w H when) x (holder w H a) (is_lost (address_after w H)) (open_at w a H x e) (named_open w a H x right e);
     by_claiming = λ H now f x right e. gone_left (holder w (At now (TakeFrame (Some f)) ∷ H)) (clock_at w H now) x (holder w H a) (is_lost (address_after w H)) (open_at w a H x e) (named_open w a H x right e);
     by_sending = λ H now f s right z q. inl q;

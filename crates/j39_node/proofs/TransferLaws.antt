@@ -166,8 +166,8 @@ budget_more w a H call o q (hears now f x) g h =
 budget_more w a H call o q (claims now f None c m) g h = h
 budget_more w a H call o q (claims now f (Some y) c m) g h = budget_left (holder w (At now (TakeFrame (Some f)) ∷ H)) (clock_at w H now) y (clears w a H) h
 budget_more w a H call o q (sends now f s z m) g h = budget_same s.running (sent_in_one (clock_at w H now) s.running) (clears w a H) refl refl (Rattle.j39_node.proofs.PortLemmas.sent_same (clock_at w H now) s.running).1 h
-budget_more w a H call o q (starts now group to k bytes e z) g h =
-    subst (Budgeted (begun_to w H now group to bytes)) (sym (ap (λ (b : Bool). if b then 0 else clears w a H) (Rattle.j39_node.proofs.Common.eq-eqb to a z)))
+budget_more w a H call o q (starts now priority group to k bytes e z) g h =
+    subst (Budgeted (begun_to w H now priority group to bytes)) (sym (ap (λ (b : Bool). if b then 0 else clears w a H) (Rattle.j39_node.proofs.Common.eq-eqb to a z)))
     (record { count = omega arith; granted = omega arith; spent = omega arith; heard = omega arith })
 budget_more w a H call o q (ends e t z) g h = tt
 budget_more w a H call o q (stays c x b m n i t u) g h = subst (BudgetedIf x) (sym n) h

@@ -136,10 +136,10 @@ example =
     ∷ At 399001 (TakeFrame (Some (first_to 399001)))
     ∷ At 399000 (Hear (clear 399000))
     ∷ TakeTransferEnded None
-    ∷ At 398002 (Transfer 65226 11 nine (Err Full))
+    ∷ At 398002 (Transfer 7 65226 11 nine (Err Full))
     ∷ At 398001 (TakeFrame (Some (request_to 398001)))
-    ∷ At 398000 (Transfer 65226 11 nine (Ok 0))
-    ∷ At 398000 (Transfer 65226 128 nine (Err BadValue))
+    ∷ At 398000 (Transfer 7 65226 11 nine (Ok 0))
+    ∷ At 398000 (Transfer 7 65226 128 nine (Err BadValue))
     ∷ TakeBroadcastEnded (Some (0, Done))
     ∷ At 396000 (TakeFrame (Some (last_packet 396000)))
     ∷ At 346000 (TakeFrame (Some (first_packet 346000)))

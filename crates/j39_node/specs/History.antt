@@ -69,7 +69,7 @@ pub data Act : Type 0 where
   Ask : ℕ → ℕ → Result ℕ Refused → Act
   Acknowledge : Asked → Answer → Result (Unit {0}) Refused → Act
   Broadcast : ℕ → List ℕ → Result ℕ Refused → Act
-  Transfer : ℕ → ℕ → List ℕ → Result ℕ Refused → Act
+  Transfer : ℕ → ℕ → ℕ → List ℕ → Result ℕ Refused → Act
 
 pub data Call : Type 0 where
   At : ℕ → Act → Call

@@ -36,7 +36,7 @@ use Rattle.j39_node.specs.History.Act.{Ask, TakeFrame, Send, Acknowledge, Broadc
 use Rattle.j39_node.specs.History.Address.{NotClaimed, Claimed, Lost}
 use Rattle.j39_sessions.specs.Sessions.{hears as sessions_hear, leaves, loses, SessionsRecord, ticks as sessions_tick}
 use Rattle.j39_sessions.specs.Shown.{sessions_of}
-use Rattle.j39_node.specs.Reception.{yields, senders, called, called_for, Calling, calls_whom, claimed_again, waned, time_heard, heard_at, later, reception, replies, replies_of, is_that}
+use Rattle.j39_node.specs.Reception.{yields, askers, senders, called, called_for, Calling, calls_whom, claimed_again, waned, time_heard, heard_at, later, reception, replies, replies_of, is_that}
 use Rattle.j39_node.specs.Asking.{Question, answer_to_ask, ended, first, lacks_answer, next_ask_ended, open_ask, question, says_to, silent_end, wait}
 use Rattle.j39_node.specs.declared.kinds.AskEnding.{AskEnding}
 use Rattle.j39_node.specs.declared.asking.Asking.{Asking}
@@ -250,7 +250,7 @@ IsAnswered w H (At now (Acknowledge r answer result)) = result ≡ answer_to_ack
 IsAnswered w H (At now (Broadcast group bytes answer)) = answer ≡ answer_to_broadcast w H now group bytes
 IsAnswered w H (TakeBroadcastEnded answer) = answer ≡ next_broadcast_ended w H
 IsAnswered w H (ReleaseTransfer answer) = answer ≡ nat_lt 0 (length (reception w H).waits)
-IsAnswered w H (At now (Transfer group to bytes answer)) = answer ≡ answer_to_transfer w H now group to bytes
+IsAnswered w H (At now (Transfer priority group to bytes answer)) = answer ≡ answer_to_transfer w H now priority group to bytes
 IsAnswered w H (TakeTransferEnded answer) = answer ≡ next_transfer_ended w H
 IsAnswered w H (At now (Ask group to answer)) = answer ≡ answer_to_ask w H now group to
 IsAnswered w H (TakeAskEnded answer) = answer ≡ next_ask_ended w H
@@ -511,6 +511,9 @@ sender_by r = option_map name_raw r.name
 abbrev pub request_by : Request → Asked
 request_by r = record { source = r.source; destination = r.destination; group = pgn_raw r.group }
 
+abbrev pub asker_by : Request → Option ℕ
+asker_by r = option_map name_raw r.name
+
 abbrev pub refusal_by : Who → Due → Message
 refusal_by w x =
     acknowledgment w x.answer (record { source = x.source; destination = global_address; group = pgn_raw x.group })
@@ -581,6 +584,7 @@ pub record View : Type 0 where
   pub unread : List (ℕ × Message)
   pub senders : List (Option ℕ)
   pub requests : List Asked
+  pub askers : List (Option ℕ)
   pub acknowledgments : List Message
   pub news : Untold
   pub missed : ℕ
@@ -601,6 +605,7 @@ view w c = record {
   unread = map received_by c.inbox.unread.items;
   senders = map sender_by c.inbox.unread.items;
   requests = map request_by c.desk.waiting.items;
+  askers = map asker_by c.desk.waiting.items;
   acknowledgments = map (refusal_by w) c.desk.due.items;
   news = c.news;
   missed = c.inbox.missed;
@@ -623,6 +628,7 @@ after w H = record {
   unread = drop (length (got H)) (kept w H);
   senders = drop (length (got H)) (senders w H);
   requests = drop (length (handed H)) (requests w H);
+  askers = drop (length (handed H)) (askers w H);
   acknowledgments = drop (length (acknowledged H)) (due w H);
   news = news_after w H;
   missed = min (missed w H) last_count;

@@ -15,7 +15,7 @@ is_move_to w a H f = is_move w H f && is_some (destination_of f.id) a
 -- those that were taken since one to it was accepted last
 abbrev pub moves : Who → ℕ → List Call → List Message
 moves w a [] = []
-moves w a (At now (Transfer group to bytes (Ok token)) ∷ H) = if nat_eq to a then [] else moves w a H
+moves w a (At now (Transfer priority group to bytes (Ok token)) ∷ H) = if nat_eq to a then [] else moves w a H
 moves w a (At now (TakeFrame (Some f)) ∷ H) = if is_move_to w a H f then moves w a H ++ message_of f ∷ [] else moves w a H
 moves w a (call ∷ H) = moves w a H
 
@@ -41,7 +41,7 @@ IsAmong xs x = (k : ℕ) × (slice_get xs k ≡ Some x)
 
 -- a transfer to this address is accepted
 abbrev pub begins : ℕ → Call → Bool
-begins a (At now (Transfer group to bytes (Ok token))) = nat_eq to a
+begins a (At now (Transfer priority group to bytes (Ok token))) = nat_eq to a
 begins a call = false
 
 abbrev pub NoneBegins : ℕ → List Call → Type 0
@@ -86,7 +86,7 @@ clears_by lost holder f (Some x) n = if takes_clear lost holder f x then n + 1 e
 
 abbrev pub clears : Who → ℕ → List Call → ℕ
 clears w a [] = 0
-clears w a (At now (Transfer group to bytes (Ok token)) ∷ H) = if nat_eq to a then 0 else clears w a H
+clears w a (At now (Transfer priority group to bytes (Ok token)) ∷ H) = if nat_eq to a then 0 else clears w a H
 clears w a (At now (Hear f) ∷ H) =
     clears_by (is_lost (address_after w (At now (Hear f) ∷ H))) (holder w (At now (Hear f) ∷ H)) f (open_to w a H) (clears w a H)
 clears w a (call ∷ H) = clears w a H

@@ -34,7 +34,7 @@ prompt_example =
 
 -- a transfer of two packets is accepted
 abbrev pub transfer_start : List Call
-transfer_start = At 300000 (Transfer 65226 11 nine (Ok 0)) ∷ At 100 (TakeFrame (Some (own_claim 100))) ∷ []
+transfer_start = At 300000 (Transfer 7 65226 11 nine (Ok 0)) ∷ At 100 (TakeFrame (Some (own_claim 100))) ∷ []
 
 -- so many takes that answer none, each a second after the one before
 abbrev pub idle : ℕ → ℕ → List Call
@@ -69,5 +69,5 @@ abbrev pub both_transfers : List Call
 both_transfers =
     At 300001 (TakeFrame (Some (other_request_to 300001)))
     ∷ At 300000 (TakeFrame (Some (request_to 300000)))
-    ∷ At 300000 (Transfer 65226 12 nine (Ok 1))
+    ∷ At 300000 (Transfer 7 65226 12 nine (Ok 1))
     ∷ transfer_start

@@ -1,7 +1,7 @@
 -- Messages that come in packets to the address that is held (J1939-21, 5.10.3): what a history says of them.
 use Rattle.std.specs.Prelude.{if◌then◌else◌, ◌&&◌, ◌++◌, ◌+◌, ◌-◌, ◌||◌, ◌∷◌, ◌≡◌}
-use Rattle.j39_node.specs.Common.{[], address_claimed_group, Bool, bytes_eq, called_time, Claim, claim_of, false, FrameRecord, global_address, is_same, last_stamp, length, List, listed, map, MessageRecord, min, nat_eq, nat_lt, None, not, null_address, Option, option_map, places, slice_get, Some, source_of, suc, take, ToSend, transport_control_group, true, unwrap_or, WasHanded, ℕ}
-use Rattle.j39_node.specs.History.{reached, Who, Message, Call, accepted, acknowledged, due, got, kept, is_for_program, holds, asks_with, is_claim, is_session, is_smaller, is_some, is_transfer, message_of, stamp_at, of_other, is_acknowledgment}
+use Rattle.j39_node.specs.Common.{[], address_claimed_group, Bool, bytes_eq, called_time, Claim, claim_of, drop, false, FrameRecord, global_address, is_same, last_stamp, length, List, listed, map, MessageRecord, min, nat_eq, nat_lt, None, not, null_address, Option, option_map, places, slice_get, Some, source_of, suc, take, ToSend, transport_control_group, true, unwrap_or, WasHanded, ℕ}
+use Rattle.j39_node.specs.History.{reached, Who, Message, Call, accepted, acknowledged, due, got, kept, is_for_program, holds, asks_with, is_claim, is_session, is_smaller, is_some, is_transfer, message_of, stamp_at, of_other, is_acknowledgment, Asked, asked, fresh, handed, is_served, requests}
 use Rattle.j39_node.specs.History.Call.{At, ReleaseTransfer}
 use Rattle.j39_node.specs.History.Act.{Hear, Tick, TakeFrame}
 use Rattle.j39_sessions.specs.Events.{after, Event, Hears, Leaves, Loses, Releases, Says, Ticks}
@@ -36,6 +36,18 @@ senders w (At now (Hear f) ∷ H) =
     then senders w H ++ holder w H (source_of f.id) ∷ []
     else senders w H
 senders w (call ∷ H) = senders w H
+
+-- beside a request that waits, the NAME that held its source
+abbrev pub with_asker : Who → Bool → Option Asked → Option ℕ → List (Option ℕ) → List (Option ℕ)
+with_asker w room o name names = elim o [ None ↦ names | Some r ↦ if is_served w r.group && room then names ++ name ∷ [] else names ]
+
+-- the NAME that held the source of each of the requests for the program, when it was heard
+abbrev pub askers : Who → List Call → List (Option ℕ)
+askers w [] = []
+askers w (At now (Hear f) ∷ H) =
+    with_asker w (nat_lt (length (requests w H) - length (handed H)) places)
+    (fresh w (drop (length (handed H)) (requests w H)) (asked w (holds w H now) f)) (holder w H (source_of f.id)) (askers w H)
+askers w (call ∷ H) = askers w H
 
 -- ---- time: the sum of the forward steps from one frame heard or tick to the next, as a stamp can tell it
 

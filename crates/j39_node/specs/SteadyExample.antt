@@ -15,7 +15,7 @@ abbrev pub message_start : List Call
 message_start = At 300000 (Send speed (Ok 0)) ∷ holding
 
 abbrev pub transfer_accepted : List Call
-transfer_accepted = At 300000 (Transfer 65226 11 nine (Ok 0)) ∷ []
+transfer_accepted = At 300000 (Transfer 7 65226 11 nine (Ok 0)) ∷ []
 
 abbrev pub steady_start : List Call
 steady_start = transfer_accepted ++ At 300000 (Broadcast 65226 nine (Ok 0)) ∷ message_start

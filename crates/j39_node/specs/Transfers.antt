@@ -12,15 +12,21 @@ use Rattle.j39_transfers.specs.Transfers.{answer, awake, is_resting as is_restin
 use Rattle.j39_transfers.specs.declared.kinds.Ending.{Ending}
 pub use Rattle.j39_transfers.specs.Transfers.{sooner}
 
--- what may be transferred: what may be broadcast, to the address of another
-abbrev pub can_transfer : Who → ℕ → ℕ → List ℕ → Bool
-can_transfer w group to bytes = can_broadcast group bytes && (nat_lt to null_address && not (nat_eq to w.address))
+-- what may be transferred: what may be broadcast, to the address of another, with a priority among transfers
+abbrev pub can_transfer : Who → ℕ → ℕ → ℕ → List ℕ → Bool
+can_transfer w priority group to bytes = nat_lt priority 8 && (can_broadcast group bytes && (nat_lt to null_address && not (nat_eq to w.address)))
 
 -- the transfers that were accepted: their destinations and messages
 abbrev pub transfers : Who → List Call → List (ℕ × MessageRecord)
 transfers w [] = []
-transfers w (At now (Transfer group to bytes (Ok token)) ∷ H) = transfers w H ++ (to, broadcast_from w group bytes) ∷ []
+transfers w (At now (Transfer priority group to bytes (Ok token)) ∷ H) = transfers w H ++ (to, broadcast_from w group bytes) ∷ []
 transfers w (call ∷ H) = transfers w H
+
+-- their priority numbers
+abbrev pub priorities : List Call → List ℕ
+priorities [] = []
+priorities (At now (Transfer priority group to bytes (Ok token)) ∷ H) = priorities H ++ priority ∷ []
+priorities (call ∷ H) = priorities H
 
 -- the tokens of those that were told to have ended, and how
 abbrev pub told_transfers : List Call → List (ℕ × Ending)
@@ -43,8 +49,8 @@ clock_at w H now = clock (age w H + step H now)
 
 -- ---- the transfers of its address (`j39_transfers`): what they went through, the newest first
 
-abbrev pub order : ℕ → ℕ → ℕ → List ℕ → Order
-order token group to bytes = record { token = token; to = to; group = group; priority = 7; bytes = bytes }
+abbrev pub order : ℕ → ℕ → ℕ → ℕ → List ℕ → Order
+order token priority group to bytes = record { token = token; to = to; group = group; priority = priority; bytes = bytes }
 
 -- by a frame the address is lost, or it is heard
 abbrev pub heard_events : Bool → ℕ → (ℕ → Option ℕ) → FrameRecord → List Event → List Event
@@ -73,9 +79,9 @@ transfer_events w (At now (Hear f) ∷ H) =
     heard_events (is_lost (address_after w (At now (Hear f) ∷ H))) (clock_at w H now) (holder w (At now (Hear f) ∷ H)) f (transfer_events w H)
 transfer_events w (At now (TakeFrame (Some f)) ∷ H) =
     taken_events (is_claim f) (is_move w H f) (clock_at w H now) (holder w (At now (TakeFrame (Some f)) ∷ H)) (transfer_events w H)
-transfer_events w (At now (Transfer group to bytes answer) ∷ H) =
+transfer_events w (At now (Transfer priority group to bytes answer) ∷ H) =
     tried_events (is_tried answer (nat_eq (length (transfers w H)) last_count))
-    (Begins (order (length (transfers w H)) group to bytes) (holder w H to) (clock_at w H now)) (transfer_events w H)
+    (Begins (order (length (transfers w H)) priority group to bytes) (holder w H to) (clock_at w H now)) (transfer_events w H)
 transfer_events w (TakeTransferEnded (Some x) ∷ H) = Tells ∷ transfer_events w H
 transfer_events w (call ∷ H) = transfer_events w H
 
@@ -117,16 +123,16 @@ abbrev pub is_resting : Who → List Call → ℕ → ℕ → ℕ → Bool
 is_resting w H now group to = is_resting_in to group (resting_at w H now)
 
 -- there is no token for it, or the transfers refuse it
-abbrev pub is_refused : Who → List Call → ℕ → ℕ → ℕ → List ℕ → Bool
-is_refused w H now group to bytes =
+abbrev pub is_refused : Who → List Call → ℕ → ℕ → ℕ → ℕ → List ℕ → Bool
+is_refused w H now priority group to bytes =
     nat_eq (length (transfers w H)) last_count
-    || not (is_ok (answer (order (length (transfers w H)) group to bytes) (awake (clock_at w H now) (transfers_at w H))))
+    || not (is_ok (answer (order (length (transfers w H)) priority group to bytes) (awake (clock_at w H now) (transfers_at w H))))
 
-abbrev pub answer_to_transfer : Who → List Call → ℕ → ℕ → ℕ → List ℕ → Result ℕ Refused
-answer_to_transfer w H now group to bytes =
+abbrev pub answer_to_transfer : Who → List Call → ℕ → ℕ → ℕ → ℕ → List ℕ → Result ℕ Refused
+answer_to_transfer w H now priority group to bytes =
     if holds w H now
-    then (if can_transfer w group to bytes
-    then (if is_refused w H now group to bytes then Err Full else Ok (length (transfers w H)))
+    then (if can_transfer w priority group to bytes
+    then (if is_refused w H now priority group to bytes then Err Full else Ok (length (transfers w H)))
     else Err BadValue)
     else Err NoAddress
 

@@ -37,14 +37,14 @@ pub fn broadcast_ends()
 /// tell its end, or that of another. T3 is 1,250 ms; 64 clears to send may grant nothing new. So for the first 285 years.
 #[tactic(auto, using(crate::proofs::EndLaws::transfer_ends))]
 pub fn transfer_ends()
-    ensures { (w : Who) (later earlier : List Call) (c : Controller) (g now group to k : ℕ) (bytes : List ℕ)
-        → Is w (later ++ At now (Transfer group to bytes (Ok k)) ∷ earlier) c → NoneTold (tells_transfer k) later
-        → IsPrompt g later (At now (Transfer group to bytes (Ok k)) ∷ earlier)
-        → age w (later ++ At now (Transfer group to bytes (Ok k)) ∷ earlier) < 9000000000000000
+    ensures { (w : Who) (later earlier : List Call) (c : Controller) (g now priority group to k : ℕ) (bytes : List ℕ)
+        → Is w (later ++ At now (Transfer priority group to bytes (Ok k)) ∷ earlier) c → NoneTold (tells_transfer k) later
+        → IsPrompt g later (At now (Transfer priority group to bytes (Ok k)) ∷ earlier)
+        → age w (later ++ At now (Transfer priority group to bytes (Ok k)) ∷ earlier) < 9000000000000000
         → (packets_of (broadcast_from w group bytes) + 65) * (timer_t3 + g) + g
-        < passed_in later (At now (Transfer group to bytes (Ok k)) ∷ earlier)
-        → (x : Running) × (open_to w to (later ++ At now (Transfer group to bytes (Ok k)) ∷ earlier) ≡ Some x) × (x.token ≡ k)
-        × IsTrue (is_over x) × (next_transfer_ended w (later ++ At now (Transfer group to bytes (Ok k)) ∷ earlier) ≢ None) }
+        < passed_in later (At now (Transfer priority group to bytes (Ok k)) ∷ earlier)
+        → (x : Running) × (open_to w to (later ++ At now (Transfer priority group to bytes (Ok k)) ∷ earlier) ≡ Some x) × (x.token ≡ k)
+        × IsTrue (is_over x) × (next_transfer_ended w (later ++ At now (Transfer priority group to bytes (Ok k)) ∷ earlier) ≢ None) }
 {}
 
 /// A message of one frame ends, also that of a request: where the driver is prompt by g microseconds since its acceptance, and more
@@ -124,15 +124,15 @@ pub fn replies_go()
 /// in this time. Messages without end hold it up, and so may a transfer's destination by RTS without end.
 #[tactic(auto, using(crate::proofs::SteadyEnds::transfer_goes))]
 pub fn transfers_go()
-    ensures { (w : Who) (later earlier : List Call) (c : Controller) (g now group to k : ℕ) (bytes : List ℕ)
-        → Is w (later ++ At now (Transfer group to bytes (Ok k)) ∷ earlier) c → NoneTold (tells_transfer k) later
-        → IsSteady g later (At now (Transfer group to bytes (Ok k)) ∷ earlier)
-        → age w (later ++ At now (Transfer group to bytes (Ok k)) ∷ earlier) < 9000000000000000
+    ensures { (w : Who) (later earlier : List Call) (c : Controller) (g now priority group to k : ℕ) (bytes : List ℕ)
+        → Is w (later ++ At now (Transfer priority group to bytes (Ok k)) ∷ earlier) c → NoneTold (tells_transfer k) later
+        → IsSteady g later (At now (Transfer priority group to bytes (Ok k)) ∷ earlier)
+        → age w (later ++ At now (Transfer priority group to bytes (Ok k)) ∷ earlier) < 9000000000000000
         → (packets_of (broadcast_from w group bytes) + 65) * (timer_t3 + 3 * g)
-        + (taken_for w later (At now (Transfer group to bytes (Ok k)) ∷ earlier) + 1) * (6 * g)
-        < passed_in later (At now (Transfer group to bytes (Ok k)) ∷ earlier)
-        → (x : Running) × (open_to w to (later ++ At now (Transfer group to bytes (Ok k)) ∷ earlier) ≡ Some x) × (x.token ≡ k)
-        × IsTrue (is_over x) × (next_transfer_ended w (later ++ At now (Transfer group to bytes (Ok k)) ∷ earlier) ≢ None) }
+        + (taken_for w later (At now (Transfer priority group to bytes (Ok k)) ∷ earlier) + 1) * (6 * g)
+        < passed_in later (At now (Transfer priority group to bytes (Ok k)) ∷ earlier)
+        → (x : Running) × (open_to w to (later ++ At now (Transfer priority group to bytes (Ok k)) ∷ earlier) ≡ Some x) × (x.token ≡ k)
+        × IsTrue (is_over x) × (next_transfer_ended w (later ++ At now (Transfer priority group to bytes (Ok k)) ∷ earlier) ≢ None) }
 {}
 
 /// A driver that is prompt by g microseconds takes one frame at least in each g too.

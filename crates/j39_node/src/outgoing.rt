@@ -227,11 +227,12 @@ fn can_send(own: &Own, priority: u8, group: Pgn, to: u8, bytes: &[u8]) -> bool
         && bytes.len() <= 8
 }
 
-/// Whether it can be sent in packets to this address.
-pub(crate) fn can_transfer(own: &Own, group: Pgn, to: u8, bytes: &[u8]) -> bool
-    ensures { result ≡ can_transfer (who_of nothing own.now) (pgn_raw group) to bytes.now }
+/// Whether it can be sent in packets to this address, with this priority among transfers.
+pub(crate) fn can_transfer(own: &Own, priority: u8, group: Pgn, to: u8, bytes: &[u8]) -> bool
+    ensures { result ≡ can_transfer (who_of nothing own.now) priority (pgn_raw group) to bytes.now }
 {
-    is_sendable(group)
+    priority < 8
+        && is_sendable(group)
         && (SHORTEST <= bytes.len() && bytes.len() <= LONGEST)
         && (to < NULL_ADDRESS && !(to == own.address))
 }

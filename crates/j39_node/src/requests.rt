@@ -1,18 +1,21 @@
 //! Requests (J1939-21, 5.4.2), and their acknowledgments (5.4.4).
-ghost use Rattle.std.specs.Prelude.{◌≡◌, ◌∷◌, [], ◌%◌, ◌/◌, ◌&&◌, ◌<◌, true, map, length, nat_lt, nat_eq, not, if◌then◌else◌};
+ghost use Rattle.std.specs.Prelude.{◌≡◌, ◌∷◌, [], ◌%◌, ◌/◌, ◌&&◌, ◌<◌, true, map, length, nat_lt, nat_eq, not, if◌then◌else◌, IfSome, Option, Some, ℕ};
 ghost use Rattle.std.specs.List.{list_any};
 ghost use Rattle.std.specs.Option.{option_map};
 ghost use Rattle.std.specs.Str.{bytes_eq};
+ghost use Rattle.j39_address.specs.Name.{name_raw};
 ghost use Rattle.j39_frame.specs.Identifier.{destination_of};
 ghost use Rattle.j39_frame.specs.Pgn.{pgn_raw};
 ghost use Rattle.j39_node.specs.History.{Who, asked, acknowledgment, fresh, is_refusal_due, is_served, repeats, with_refusal, with_request, is_request, nothing};
 ghost use Rattle.j39_node.specs.declared.kinds.Answer.TheVariants as busy;
-ghost use Rattle.j39_node.specs.Is.{IsRead, refusal_by, request_by, who_of};
+ghost use Rattle.j39_node.specs.Is.{IsRead, asker_by, refusal_by, request_by, who_of};
+ghost use Rattle.j39_node.specs.Reception.{with_asker};
 
 use crate::Answer;
 use crate::heard::Heard;
 use crate::own::{ADDRESS_CLAIMED, Own};
 use arrayvec::ArrayVec;
+use j39_address::Name;
 use j39_frame::{Frame, GLOBAL_ADDRESS, NULL_ADDRESS, Pgn};
 
 /// A request for a group, to this controller or to all.
@@ -20,6 +23,8 @@ use j39_frame::{Frame, GLOBAL_ADDRESS, NULL_ADDRESS, Pgn};
 pub struct Request {
     /// The address that asks.
     pub source: u8,
+    /// The NAME that held `source` when it was heard; `None` where nobody did.
+    pub name: Option<Name>,
     /// 255 where all are asked, else this controller's address.
     pub destination: u8,
     /// The group that is asked for.
@@ -58,6 +63,7 @@ impl Default for Request {
     fn default() -> Request {
         Request {
             source: 0,
+            name: None,
             destination: 0,
             group: Pgn::new(0).unwrap(),
         }
@@ -108,6 +114,7 @@ impl Due {
     {
         let request = Request {
             source: self.source,
+            name: None,
             destination: GLOBAL_ADDRESS,
             group: self.group,
         };
@@ -136,8 +143,9 @@ impl Desk {
 
     /// A request, but one for a served group that waits already.
     pub(crate) fn fresh(&self, own: &Own, request: Option<Request>) -> Option<Request>
-        ensures { option_map request_by result
+        ensures request { option_map request_by result
             ≡ fresh (who_of nothing own.now) (map request_by self.now.waiting.items) (option_map request_by request) }
+        ensures same { IfSome result (λ r. request ≡ Some r) }
     {
         match request {
             Some(request) => {
@@ -157,6 +165,9 @@ impl Desk {
         ensures waiting { map request_by self.new.waiting.items
             ≡ with_request (who_of nothing own.now) (nat_lt (length self.old.waiting.items) 16) (option_map request_by request)
             (map request_by self.old.waiting.items) }
+        ensures askers { (name : Option ℕ) → IfSome request (λ r. asker_by r ≡ name) → map asker_by self.new.waiting.items
+            ≡ with_asker (who_of nothing own.now) (nat_lt (length self.old.waiting.items) 16) (option_map request_by request)
+            name (map asker_by self.old.waiting.items) }
         ensures due { map (refusal_by (who_of nothing own.now)) self.new.due.items
             ≡ with_refusal (who_of nothing own.now) (nat_lt (length self.old.waiting.items) 16)
             (nat_lt (length self.old.due.items) 16
@@ -224,9 +235,16 @@ fn refusal(own: &Own, request: &Request) -> Answer
     }
 }
 
-/// What a frame asks of the controller.
-pub(crate) fn asked(own: &Own, is_held: bool, heard: Heard, frame: &Frame) -> Option<Request>
-    ensures { IsRead heard frame.now → option_map request_by result ≡ asked (who_of nothing own.now) is_held frame.now }
+/// What a frame, whose source this NAME holds, asks of the controller.
+pub(crate) fn asked(
+    own: &Own,
+    is_held: bool,
+    heard: Heard,
+    frame: &Frame,
+    name: Option<Name>,
+) -> Option<Request>
+    ensures request { IsRead heard frame.now → option_map request_by result ≡ asked (who_of nothing own.now) is_held frame.now }
+    ensures asker { IfSome result (λ r. asker_by r ≡ option_map name_raw name) }
 {
     let destination = frame.id.destination()?;
     let number = heard.request()?;
@@ -234,6 +252,7 @@ pub(crate) fn asked(own: &Own, is_held: bool, heard: Heard, frame: &Frame) -> Op
         let group = Pgn::new(number)?;
         Some(Request {
             source: frame.id.source(),
+            name,
             destination,
             group,
         })

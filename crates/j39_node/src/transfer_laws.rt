@@ -11,7 +11,7 @@ ghost use Rattle.j39_transport.specs.Signals.{Acknowledgment, said_between};
 ghost use Rattle.j39_transfers.specs.declared.kinds.Ending.{Ending as TransferEnding};
 ghost use Rattle.j39_transfers.specs.declared.kinds.Ending.TheVariants as how;
 ghost use Rattle.j39_transfers.specs.Events.{WasTold};
-ghost use Rattle.j39_transfers.specs.Transfers.{gives_up, is_open, is_over, is_refused, is_replaced, is_spent, turn, Transfer as Running};
+ghost use Rattle.j39_transfers.specs.Transfers.{gives_up, is_due, is_open, is_over, is_refused, is_replaced, is_spent, turn, Transfer as Running};
 ghost use Rattle.j39_node.specs.declared.controller.Controller.{Controller};
 ghost use Rattle.j39_node.specs.declared.kinds.Refused.{Refused};
 ghost use Rattle.j39_node.specs.declared.kinds.Refused.TheVariants as refused;
@@ -22,7 +22,7 @@ ghost use Rattle.j39_node.specs.Prompt.{NoneTold, tells_transfer};
 ghost use Rattle.j39_node.specs.Since.{PacketSince, RestsSince};
 ghost use Rattle.j39_node.specs.Moving.{begun, moved};
 ghost use Rattle.j39_node.specs.Reception.{holder, is_move};
-ghost use Rattle.j39_node.specs.Transfers.{can_transfer, clock_at, is_resting, next_transfer, next_transfer_ended, open_to, resting_at, told_transfers, transfers, transfers_at};
+ghost use Rattle.j39_node.specs.Transfers.{can_transfer, clock_at, is_resting, next_transfer, next_transfer_ended, open_to, priorities, resting_at, told_transfers, transfers, transfers_at};
 ghost use Rattle.j39_node.specs.Moves.{Aborts, Acknowledges, Happened, IsMove, Replaces, abort_move, clears, moves};
 ghost use Rattle.j39_node.specs.Is.{Is, gives_way, next_long};
 ghost use Rattle.j39_node.specs.Times.{gap, rest_time};
@@ -31,26 +31,26 @@ ghost use Rattle.j39_node.specs.Times.{gap, rest_time};
 /// destination is accepted and not told, or one in each box (or as many as there are tokens were accepted), where it rests, or twice as
 /// many pairs as boxes rest or may yet; and else the next token.
 pub fn transfer_means()
-    ensures no_address { (w : Who) (H : List Call) (c : Controller) (now group to : ℕ) (bytes : List ℕ) (answer : Result ℕ Refused)
-        → Is w (At now (Transfer group to bytes answer) ∷ H) c → (answer ≡ Err refused.NoAddress ↔ (IsTrue (holds w H now) → ⊥)) }
-    ensures bad_value { (w : Who) (H : List Call) (c : Controller) (now group to : ℕ) (bytes : List ℕ) (answer : Result ℕ Refused)
-        → Is w (At now (Transfer group to bytes answer) ∷ H) c
-        → (answer ≡ Err refused.BadValue ↔ (IsTrue (holds w H now) × (IsTrue (can_transfer w group to bytes) → ⊥))) }
-    ensures full { (w : Who) (H : List Call) (c : Controller) (now group to : ℕ) (bytes : List ℕ) (answer : Result ℕ Refused)
-        → Is w (At now (Transfer group to bytes answer) ∷ H) c
+    ensures no_address { (w : Who) (H : List Call) (c : Controller) (now priority group to : ℕ) (bytes : List ℕ) (answer : Result ℕ Refused)
+        → Is w (At now (Transfer priority group to bytes answer) ∷ H) c → (answer ≡ Err refused.NoAddress ↔ (IsTrue (holds w H now) → ⊥)) }
+    ensures bad_value { (w : Who) (H : List Call) (c : Controller) (now priority group to : ℕ) (bytes : List ℕ) (answer : Result ℕ Refused)
+        → Is w (At now (Transfer priority group to bytes answer) ∷ H) c
+        → (answer ≡ Err refused.BadValue ↔ (IsTrue (holds w H now) × (IsTrue (can_transfer w priority group to bytes) → ⊥))) }
+    ensures full { (w : Who) (H : List Call) (c : Controller) (now priority group to : ℕ) (bytes : List ℕ) (answer : Result ℕ Refused)
+        → Is w (At now (Transfer priority group to bytes answer) ∷ H) c
         → (answer ≡ Err refused.Full
-        ↔ (IsTrue (holds w H now) × IsTrue (can_transfer w group to bytes)
+        ↔ (IsTrue (holds w H now) × IsTrue (can_transfer w priority group to bytes)
         × ((length (transfers w H) ≡ 18446744073709551615)
         ⊎ (IsTrue (is_open to (transfers_at w H).running) ⊎ (IsTrue (is_resting w H now group to)
         ⊎ ((w.transfers ≤ length (transfers_at w H).running)
         ⊎ (2 * w.transfers ≤ length (resting_at w H now) + length (transfers_at w H).running))))))) }
-    ensures accepts { (w : Who) (H : List Call) (c : Controller) (now group to : ℕ) (bytes : List ℕ) (answer : Result ℕ Refused)
-        → Is w (At now (Transfer group to bytes answer) ∷ H) c → IsTrue (holds w H now) → IsTrue (can_transfer w group to bytes)
+    ensures accepts { (w : Who) (H : List Call) (c : Controller) (now priority group to : ℕ) (bytes : List ℕ) (answer : Result ℕ Refused)
+        → Is w (At now (Transfer priority group to bytes answer) ∷ H) c → IsTrue (holds w H now) → IsTrue (can_transfer w priority group to bytes)
         → length (transfers w H) < 18446744073709551615 → is_open to (transfers_at w H).running ≡ false
         → is_resting w H now group to ≡ false → length (transfers_at w H).running < w.transfers
         → length (resting_at w H now) + length (transfers_at w H).running < 2 * w.transfers → answer ≡ Ok (length (transfers w H)) }
-    ensures token { (w : Who) (H : List Call) (c : Controller) (now group to k : ℕ) (bytes : List ℕ)
-        → Is w (At now (Transfer group to bytes (Ok k)) ∷ H) c → k ≡ length (transfers w H) }
+    ensures token { (w : Who) (H : List Call) (c : Controller) (now priority group to k : ℕ) (bytes : List ℕ)
+        → Is w (At now (Transfer priority group to bytes (Ok k)) ∷ H) c → k ≡ length (transfers w H) }
     ensures counted { (w : Who) (H : List Call) (c : Controller) → Is w H c
         → (length (transfers w H) ≡ length (told_transfers H) + length (transfers_at w H).running)
         × (length (transfers_at w H).running ≤ w.transfers) }
@@ -93,6 +93,16 @@ pub fn moves_mean()
         → gives_up x ≡ false
         → (y : Running) × (open_to w a (At now (TakeFrame (Some f)) ∷ H) ≡ Some y)
         × (y.sender ≡ (send_step x.sender Tick (clock_at w H now)).after) }
+{}
+
+/// Of the transfers that send a frame at a time one goes first whose priority number is smallest: the one whose frame is taken has no
+/// larger number than another that is open and sends a frame then. A transfer has the number that was handed in with its message.
+pub fn urgent_transfers_first()
+    ensures numbered { (w : Who) (H : List Call) (c : Controller) (a : ℕ) (x : Running) → Is w H c → open_to w a H ≡ Some x
+        → slice_get (priorities H) x.token ≡ Some x.priority }
+    ensures first { (w : Who) (H : List Call) (c : Controller) (now a b : ℕ) (f : FrameRecord) (x y : Running)
+        → Is w (At now (TakeFrame (Some f)) ∷ H) c → IsTrue (is_move w H f) → destination_of f.id ≡ Some a → open_to w a H ≡ Some x
+        → open_to w b H ≡ Some y → IsTrue (is_due (clock_at w H now) y) → x.priority ≤ y.priority }
 {}
 
 /// The tokens of the transfers accepted are 0, 1, 2 and so on, and each is told at most once to have ended: as done only where its

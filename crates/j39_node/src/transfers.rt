@@ -17,9 +17,6 @@ use j39_address::{Claims, Name};
 use j39_frame::{Frame, Pgn, Stamp};
 use j39_transfers::Outgoing;
 
-/// All transfers have one priority, so they take turns.
-const PRIORITY: u8 = 7;
-
 /// The transfers from the address, and the token of the next.
 #[derive(Drop)]
 pub(crate) struct Transfers {
@@ -55,6 +52,7 @@ impl Transfers {
     /// A message is to be sent that can be, to an address that this NAME holds: answers its token, if there is room for it.
     pub(crate) fn begin(
         &mut self,
+        priority: u8,
         group: Pgn,
         to: u8,
         bytes: &[u8],
@@ -62,10 +60,10 @@ impl Transfers {
         clock: Stamp,
     ) -> Result<u64, Refused>
         ensures answers { result ≡ (if nat_eq self.old.next_token last_count
-            || not (is_ok (answer (order self.old.next_token (pgn_raw group) to bytes.now) (awake (stamp_micros clock) (port_of self.old).state)))
+            || not (is_ok (answer (order self.old.next_token priority (pgn_raw group) to bytes.now) (awake (stamp_micros clock) (port_of self.old).state)))
             then Err refused.Full else Ok self.old.next_token) }
         ensures begins { (port_of self.new).state ≡ (if nat_eq self.old.next_token last_count then (port_of self.old).state
-            else begins (order self.old.next_token (pgn_raw group) to bytes.now) (option_map name_raw name) (stamp_micros clock) (port_of self.old).state) }
+            else begins (order self.old.next_token priority (pgn_raw group) to bytes.now) (option_map name_raw name) (stamp_micros clock) (port_of self.old).state) }
         ensures token { self.new.next_token ≡ (if is_ok result then self.old.next_token + 1 else self.old.next_token) }
     {
         if self.next_token == u64::MAX {
@@ -75,7 +73,7 @@ impl Transfers {
             token: self.next_token,
             destination: to,
             group,
-            priority: PRIORITY,
+            priority,
             payload: bytes,
         };
         match self.all.begin(&message, name, clock) {

@@ -22,7 +22,6 @@ use std::alloc::{AllocError, Global};
 
 /// The messages that an address sends in packets: a transfer in each of its boxes, to each destination one; and which pairs of group and
 /// destination rest.
-#[derive(Drop)]
 pub struct Transfers {
     pub(crate) own: u8,
     pub(crate) boxes: u8,
@@ -36,6 +35,23 @@ pub struct Transfers {
     pub ghost free_fits: { boxes ≤ vec_capacity free },
     pub ghost rests_fit: { 2 * boxes ≤ vec_capacity resting },
     pub ghost rests_left: { length resting.items + length current.items ≤ 2 * boxes },
+}
+
+// In what holds it this would be much code, by which that would be built on the stack, and not where it stays.
+impl Drop for Transfers {
+    #[inline(never)]
+    fn drop(self) {
+        let Transfers {
+            own: _,
+            boxes: _,
+            current,
+            free,
+            resting,
+        } = self;
+        drop(current);
+        drop(free);
+        drop(resting);
+    }
 }
 
 impl Transfers {

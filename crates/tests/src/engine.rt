@@ -1,6 +1,7 @@
 //! An engine's controller: it claims address 0, sends its speed, hears that of another engine, and answers what it is asked.
 use crate::examples::engine_speed;
 use j39_address::{Name, Status};
+use j39_application::{Outgoing, send, take_ended};
 use j39_frame::{Frame, GLOBAL_ADDRESS, Pgn, Stamp};
 use j39_groups::raw_of;
 use j39_node::{Answer, Controller, Request, Setup};
@@ -80,15 +81,19 @@ pub fn turn(engine: &mut Engine, heard: Option<&Frame>, now: Stamp) -> Option<Fr
 
 /// Its VIN goes to all if all were asked, else to who asked, or `Busy`. What else it serves it denies.
 fn answer(controller: &mut Controller, request: Request, now: Stamp) {
-    let vin = b"1FUJA6CV12LK12345*";
+    let vin = Outgoing {
+        priority: 6,
+        group: request.group,
+        to: if request.destination == GLOBAL_ADDRESS {
+            GLOBAL_ADDRESS
+        } else {
+            request.source
+        },
+        bytes: b"1FUJA6CV12LK12345*",
+    };
     if request.group.raw() != 65_260 {
         let _refused = controller.acknowledge(now, request, Answer::Denied);
-    } else if request.destination == GLOBAL_ADDRESS {
-        let _token = controller.broadcast(now, request.group, vin);
-    } else if controller
-        .transfer(now, request.group, request.source, vin)
-        .is_err()
-    {
+    } else if send(controller, now, &vin).is_err() {
         let _refused = controller.acknowledge(now, request, Answer::Busy);
     }
 }
@@ -101,9 +106,7 @@ fn take_in(engine: &mut Engine) {
     }
     controller.release_transfer();
     controller.release_broadcast();
-    controller.take_ended();
-    controller.take_broadcast_ended();
-    controller.take_transfer_ended();
+    take_ended(controller);
     controller.take_news();
     if let (Status::Cannot, Some(free)) = (controller.status(), controller.free_address()) {
         controller.move_to(free);

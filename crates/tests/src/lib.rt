@@ -17,6 +17,8 @@ mod examples;
 #[cfg(test)]
 mod fault_messages;
 #[cfg(test)]
+mod kept_answers;
+#[cfg(test)]
 mod node;
 #[cfg(test)]
 mod node_address;

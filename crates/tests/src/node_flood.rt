@@ -130,8 +130,14 @@ fn answer(node: &mut Controller, sent: &Frame, now: Stamp) -> Option<()> {
 fn transferred(node: &mut Controller) -> Option<u32> {
     node.take_frame(Stamp::new(0)?)?;
     let start = 250_000;
-    node.transfer(Stamp::new(start)?, Pgn::new(65_226)?, PARTNER, &[0x2A; 9])
-        .ok()?;
+    node.transfer(
+        Stamp::new(start)?,
+        7,
+        Pgn::new(65_226)?,
+        PARTNER,
+        &[0x2A; 9],
+    )
+    .ok()?;
     let mut frames = 0u32;
     for turn in 1..101u8 {
         let now = start.saturating_add(PERIOD.saturating_mul(u64::from(turn)));

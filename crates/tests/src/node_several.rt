@@ -162,7 +162,7 @@ fn goes_to(node: &mut Controller, now: Stamp) -> Option<(u8, u8)> {
 fn done_in_turn(node: &mut Controller, count: u8, now: Stamp) -> Option<u64> {
     let group = Pgn::new(65_226)?;
     for to in 0..count {
-        node.transfer(now, group, to, &[to; 18]).ok()?;
+        node.transfer(now, 7, group, to, &[to; 18]).ok()?;
     }
     for to in 0..count {
         if goes_to(node, now)? != (to, 16) {
@@ -204,12 +204,12 @@ fn node_sends_to_as_many_at_once_as_it_has_boxes(rt: HostRuntime) -> Result<(), 
 
     // One that is absent delays no other: its request to send goes, and then all go to the other.
     let group = Pgn::new(65_226).ok_or("group")?;
-    assert_eq!(rt; node.transfer(now, group, 200, &[1; 18]), Ok(16));
+    assert_eq!(rt; node.transfer(now, 7, group, 200, &[1; 18]), Ok(16));
     assert_eq!(rt;
-        node.transfer(now, group, 200, &[1; 18]),
+        node.transfer(now, 7, group, 200, &[1; 18]),
         Err(Refused::Full)
     );
-    assert_eq!(rt; node.transfer(now, group, 100, &[1; 18]), Ok(17));
+    assert_eq!(rt; node.transfer(now, 7, group, 100, &[1; 18]), Ok(17));
     assert_eq!(rt; goes_to(&mut node, now), Some((200, 16)));
     assert_eq!(rt; goes_to(&mut node, now), Some((100, 16)));
     says(&mut node, 100, &[17, 3, 1, 255, 255, 0xCA, 0xFE, 0], now).ok_or("frame")?;

@@ -101,7 +101,9 @@ impl Pair {
     fn begin(&mut self) -> Option<()> {
         let now = Stamp::new(self.now)?;
         let group = Pgn::new(65_226)?;
-        self.sender.transfer(now, group, RECEIVER, &LONGEST).ok()?;
+        self.sender
+            .transfer(now, 7, group, RECEIVER, &LONGEST)
+            .ok()?;
         self.exchange()
     }
 

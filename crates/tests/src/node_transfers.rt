@@ -291,7 +291,7 @@ fn transfers_of_a_node(rt: HostRuntime) -> Result<(), Fail> {
 /// is busy.
 fn breaks_off(node: &mut Controller, now: Stamp, to: u8) -> Option<bool> {
     let group = Pgn::new(65_226)?;
-    if node.transfer(now, group, to, &MESSAGE).is_err() {
+    if node.transfer(now, 7, group, to, &MESSAGE).is_err() {
         return Some(false);
     }
     let request = node.take_frame(now)?;
@@ -324,7 +324,7 @@ fn delivered(
     bytes: &[u8],
 ) -> Option<(usize, Option<(u64, TransferEnding)>)> {
     let now = Stamp::new(250_000)?;
-    node.transfer(now, Pgn::new(65_226)?, 11, bytes).ok()?;
+    node.transfer(now, 7, Pgn::new(65_226)?, 11, bytes).ok()?;
     let mut got = 0;
     // No transfer takes more frames: a request to send, and at most 255 packets.
     for _frame in 0..256 {

@@ -233,7 +233,7 @@ fn takes(node: &mut Controller, step: &Step) -> Option<bool> {
             Some(node.broadcast(Stamp::new(*micros)?, Pgn::new(65_226)?, bytes) == *wanted)
         }
         Transfers(micros, to, bytes, wanted) => {
-            Some(node.transfer(Stamp::new(*micros)?, Pgn::new(65_226)?, *to, bytes) == *wanted)
+            Some(node.transfer(Stamp::new(*micros)?, 7, Pgn::new(65_226)?, *to, bytes) == *wanted)
         }
         Asks(micros, group, to, wanted) => {
             Some(node.ask(Stamp::new(*micros)?, Pgn::new(*group)?, *to) == *wanted)

@@ -222,7 +222,9 @@ impl Station {
     fn transfer(&mut self, draft: &Draft<'_>, to: u8, number: usize, now: Stamp) -> bool
         ensures { Calls (is_handing (stamp_micros now)) self.old.controller self.new.controller }
     {
-        let answer = self.controller.transfer(now, draft.pgn, to, draft.payload);
+        let answer = self
+            .controller
+            .transfer(now, 7, draft.pgn, to, draft.payload);
         self.transfer = numbered(&answer, number, self.transfer);
         answer.is_ok()
     }

@@ -81,6 +81,8 @@ impl Controller {
     /// Hands in a message of 9 to 1,785 bytes, to all: an announcement and packets, at least 50 ms from one frame to the next;
     /// answers its token, 0, 1, 2 and so on, apart from those of `send`. `Full` while one is accepted and not told to have
     /// ended.
+    // Where a caller sends frames too, these need no stack for its bytes.
+    #[inline(never)]
     pub fn broadcast(&mut self, now: Stamp, group: Pgn, bytes: &[u8]) -> Result<u64, Refused>
         ensures { (w : Who) (H : List Call) → Is w H self.old
             → Is w (At (stamp_micros now) (Broadcast (pgn_raw group) bytes.now result) ∷ H) self.new }
@@ -106,24 +108,35 @@ impl Controller {
     }
 
     /// Hands in a message of 9 to 1,785 bytes, to another's address: a request to send, and the packets that it clears; answers its
-    /// token, 0, 1, 2 and so on, apart from those of `send` and `broadcast`. `Full` while one to this address, or in each box one, is
-    /// accepted and not told to have ended; and while it rests: for 4 seconds after the end of one of this group to this address, which
-    /// wasn't acknowledged, so that nothing late of it is taken for this one's. None rests of which nothing was sent, or whose request to
-    /// send was refused. `Full` too while twice as many others as boxes rest or may yet.
-    pub fn transfer(&mut self, now: Stamp, group: Pgn, to: u8, bytes: &[u8]) -> Result<u64, Refused>
+    /// token, 0, 1, 2 and so on, apart from those of `send` and `broadcast`. Of the transfers that send a frame at a time one goes first
+    /// whose priority number, 0 to 7, is smallest, and those of one number take turns; their frames all have priority 7. `Full` while one
+    /// to this address, or in each box one, is accepted and not told to have ended; and while it rests: for 4 seconds after the end of one
+    /// of this group to this address, which wasn't acknowledged, so that nothing late of it is taken for this one's. None rests of which
+    /// nothing was sent, or whose request to send was refused. `Full` too while twice as many others as boxes rest or may yet.
+    // Where a caller sends frames too, these need no stack for its bytes.
+    #[inline(never)]
+    pub fn transfer(
+        &mut self,
+        now: Stamp,
+        priority: u8,
+        group: Pgn,
+        to: u8,
+        bytes: &[u8],
+    ) -> Result<u64, Refused>
         ensures { (w : Who) (H : List Call) → Is w H self.old
-            → Is w (At (stamp_micros now) (Transfer (pgn_raw group) to bytes.now result) ∷ H) self.new }
+            → Is w (At (stamp_micros now) (Transfer priority (pgn_raw group) to bytes.now result) ∷ H) self.new }
     {
         self.hold = self.hold.passed(now);
         if !self.hold.is_held() {
             return Err(Refused::NoAddress);
         }
-        if !can_transfer(&self.own, group, to, bytes) {
+        if !can_transfer(&self.own, priority, group, to, bytes) {
             return Err(Refused::BadValue);
         }
         let name = self.holders.holder(to);
         let clock = self.hold.clock();
-        self.transfers.begin(group, to, bytes, name, clock)
+        self.transfers
+            .begin(priority, group, to, bytes, name, clock)
     }
 
     /// Asks an address, or all (255), for a group, also for claims, by a message of priority 6; answers its token, one of those

@@ -5,8 +5,8 @@ ghost use Rattle.std.specs.Option.{option_map};
 ghost use Rattle.j39_frame.specs.Stamp.{stamp_micros};
 ghost use Rattle.j39_transport.specs.ReceiverModel.{message_shown};
 ghost use Rattle.j39_address.specs.Name.{name_raw};
-ghost use Rattle.j39_node.specs.History.{Who, Call, got};
-ghost use Rattle.j39_node.specs.Reception.{reception, senders, transfer_sender};
+ghost use Rattle.j39_node.specs.History.{Who, Call, got, handed};
+ghost use Rattle.j39_node.specs.Reception.{askers, reception, senders, transfer_sender};
 ghost use Rattle.j39_node.specs.Hearing.{broadcast_senders, waiting};
 ghost use Rattle.j39_node.specs.History.Call.{TakeAskEnded, TakeEnded, TakeReceived, TakeRequest, TakeNews, TakeBroadcastEnded, ReleaseTransfer, TakeTransferEnded, ReleaseBroadcast};
 ghost use Rattle.j39_node.specs.Is.{Is, received_by, request_by, silence};
@@ -153,10 +153,13 @@ impl Controller {
         None
     }
 
-    /// A request for a served group, each once, the oldest first; one that is repeated while it waits is no other (own). Answer
-    /// it by `acknowledge`, or by `send` of its group: to all where all were asked, else to who asked.
+    /// A request for a served group, each once, the oldest first, with the NAME that held its source then; one that is repeated
+    /// while it waits is no other (own). Answer it by `acknowledge`, or by `send` of its group: to all where all were asked, else
+    /// to who asked.
     pub fn take_request(&mut self) -> Option<Request>
-        ensures { (w : Who) (H : List Call) → Is w H self.old
+        ensures asker { IfSome result (λ r. (w : Who) (H : List Call) → Is w H self.old
+            → slice_get (askers w H) (length (handed H)) ≡ Some (option_map name_raw r.name)) }
+        ensures is { (w : Who) (H : List Call) → Is w H self.old
             → Is w (TakeRequest (option_map request_by result) ∷ H) self.new }
     {
         if self.desk.waiting.is_empty() {

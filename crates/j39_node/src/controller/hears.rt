@@ -31,7 +31,7 @@ impl Controller {
         let misses = self.inbox.misses(wanted);
         let sender = self.holders.holder(frame.id.source());
         self.inbox.offer(wanted, frame, sender);
-        let request = asked(&self.own, is_held, heard, frame);
+        let request = asked(&self.own, is_held, heard, frame, sender);
         let request = self.desk.fresh(&self.own, request);
         self.desk.hear(&self.own, request);
         let doubled = self.own.double(heard);

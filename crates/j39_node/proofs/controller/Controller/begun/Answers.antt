@@ -1,4 +1,4 @@
-use Rattle.j39_node.proofs.Common.{[], after, asking_of, lane_of, map, nothing, posted, received_by, refusal_by, request_by, rules, Who, who_of, sender_by, ap, ◌∙◌, IncomingRecord, SessionsRecord, TransfersRecord, PortRecord, refl}
+use Rattle.j39_node.proofs.Common.{[], after, asking_of, lane_of, map, nothing, posted, received_by, refusal_by, request_by, rules, Who, who_of, asker_by, sender_by, ap, ◌∙◌, IncomingRecord, SessionsRecord, TransfersRecord, PortRecord, refl}
 use Rattle.j39_node.proofs.CallLemmas.{begun_transfers}
 use Rattle.j39_node.proofs.controller.Controller.begun.Goals as goal
 
@@ -13,6 +13,7 @@ returns c =
         unread = map received_by (c.new-4.ensures.unread i);
         senders = map sender_by (c.new-4.ensures.unread i);
         requests = map request_by (c.new-5.ensures.waiting i);
+        askers = map asker_by (c.new-5.ensures.waiting i);
         acknowledgments = map (refusal_by w) (c.new-5.ensures.due i);
         news = c.none.ensures i;
         missed = c.new-4.ensures.missed i;

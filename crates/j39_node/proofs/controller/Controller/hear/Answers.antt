@@ -5,12 +5,12 @@ use Rattle.j39_node.specs.Boxes.{in_box}
 use Rattle.j39_node.specs.Hearing.{broadcast_senders, found, made_whole, of, sender_in, with_sender}
 use Rattle.j39_node.proofs.AskLemmas.{ask_heard}
 use Rattle.j39_node.proofs.ReceptionLemmas.{again_is, holders_are, table_is}
-use Rattle.j39_node.proofs.Common.{[], if◌then◌else◌, ◌&&◌, ◌++◌, ◌||◌, ◌∙◌, ◌∷◌, ap, asking_of, AskRecord, Bool, claim_of, fresh, heard, hearing_of, hears_with, incoming_of, is_coming, is_lost, Knows, length, lost, map, name_raw, nat_lt, not, Option, option_map, option_or, port_of, refusal_by, request_by, stamp_micros, subst, Untold, View, who_of, with_refusal, ℕ, At, Hear, Hold, IncomingRecord, MessageRecord, Who, acknowledged, address_after, age, asked, called, calls_for_claim, claimed_again, clock_at, comes, counted, delayed, double, drop, due, ended, is_any, over_by, got, handed, heard_at, hold_after, holder, holder_in, holds, incoming_after, is_another, is_double, is_for_program, is_refusal_due, is_smaller, is_unheard_in, made_in, source_of, kept, later, made, made_of, min, missed, missed_news, nat_eq, news_after, offered, older, open_ask, owes_claim, patience, reached, received_by, requests, restarts, silence, stamped, standing_of, step, sym, time_heard, told_claims, unheard_by, unheard_news, wait, whole, with_request, ◌*◌, ◌+◌, ◌-◌, ◌≡◌, sender_by, FrameRecord, waned, transfers_at, None}
+use Rattle.j39_node.proofs.Common.{[], if◌then◌else◌, ◌&&◌, ◌++◌, ◌||◌, ◌∙◌, ◌∷◌, ap, asker_by, askers, asking_of, AskRecord, Bool, claim_of, fresh, heard, hearing_of, hears_with, incoming_of, is_coming, is_lost, Knows, length, lost, map, name_raw, nat_lt, not, Option, option_map, option_or, port_of, refusal_by, request_by, stamp_micros, subst, Untold, View, who_of, with_refusal, ℕ, At, Hear, Hold, IncomingRecord, MessageRecord, Who, acknowledged, address_after, age, asked, called, calls_for_claim, claimed_again, clock_at, comes, counted, delayed, double, drop, due, ended, is_any, over_by, got, handed, heard_at, hold_after, holder, holder_in, holds, incoming_after, is_another, is_double, is_for_program, is_refusal_due, is_smaller, is_unheard_in, made_in, source_of, kept, later, made, made_of, min, missed, missed_news, nat_eq, news_after, offered, older, open_ask, owes_claim, patience, reached, received_by, requests, restarts, silence, stamped, standing_of, step, sym, time_heard, told_claims, unheard_by, unheard_news, wait, whole, with_asker, with_request, ◌*◌, ◌+◌, ◌-◌, ◌≡◌, sender_by, FrameRecord, waned, transfers_at, None}
 use Rattle.j39_node.specs.Is.{hearing_it}
 use Rattle.std.specs.Option.{is_some}
 use Rattle.j39_node.proofs.PortLemmas.{clock_is}
 use Rattle.j39_transfers.specs.Transfers.{hears as transfers_hear, leaves as transfers_leave, loses as transfers_lose}
-use Rattle.j39_node.proofs.CallLemmas.{transfers_heard, passed_is, news_heard, coming_is, heard_standing, holds_is, incoming_heard, made_heard, kept_rest, senders_rest, lost_is, missed_rest, refusal_rest, request_rest}
+use Rattle.j39_node.proofs.CallLemmas.{transfers_heard, passed_is, news_heard, coming_is, heard_standing, holds_is, incoming_heard, made_heard, kept_rest, senders_rest, lost_is, missed_rest, refusal_rest, request_rest, asker_rest, asker_stays, askers_length}
 use Rattle.j39_node.proofs.controller.Controller.hear.Goals as goal
 
 pub returns : goal.returns
@@ -26,9 +26,11 @@ returns c = λ w H h.
     let lost_before : c.is_lost-is_lost.result ≡ is_lost (address_after w H) =
     c.is_lost-is_lost.ensures ∙ (ap lost (ap (λ (k : Hold). k.standing) p) ∙ (lost_is (older (step H t) (address_after w H)) ∙ lost_older (step H t) (address_after w H))) in
     let asks_for : (option_map request_by c.fresh-request.result) ≡ fresh w (drop (length (handed H)) (requests w H)) (asked w (holds w H t) f) =
-    (c.fresh-request.ensures ∙ ap (fresh (who_of w.brought c.args.self.now.own) (map request_by c.args.self.now.desk.waiting.items)) (c.asked-request.ensures c.of-heard.ensures))
+    (c.fresh-request.ensures.request ∙ ap (fresh (who_of w.brought c.args.self.now.own) (map request_by c.args.self.now.desk.waiting.items)) (c.asked-request.ensures.request c.of-heard.ensures))
     ∙ (ap (λ (u : View). fresh u.who (map request_by c.args.self.now.desk.waiting.items) (asked u.who c.is_held-is_held.result f)) h.shown
     ∙ λ i. fresh w ((h.shown i).requests) (asked w (holds_is w H t c.passed-self.result c.is_held-is_held.result p c.is_held-is_held.ensures i) f)) in
+    let sender_is : option_map name_raw c.holder-sender.result ≡ holder w H (source_of f.id) =
+    c.holder-sender.ensures.value ∙ (ap (holder_in c.args.self.now.holders) (c.source.ensures ∙ ap (λ (g : FrameRecord). source_of g.id) c.frame.view_is) ∙ table_is w c.args.self.now.holders H (source_of f.id) h.holders) in
     let room : nat_lt (length c.args.self.now.desk.waiting.items) 16 ≡ nat_lt (length (requests w H) - length (handed H)) 16 =
     ap (λ (n : ℕ). nat_lt n 16) (length_rest request_by c.args.self.now.desk.waiting.items (length (handed H)) (requests w H) (ap (λ (v : View). v.requests) h.shown)) in
     let place : nat_lt (length c.args.self.now.desk.due.items) 16 ≡ nat_lt (length (due w H) - length (acknowledged H)) 16 =
@@ -93,10 +95,14 @@ returns c = λ w H h.
         unread = (c.offer.ensures.unread ∙ (ap (λ (b : Bool). offered b (stamped f) (map received_by c.args.self.now.inbox.unread.items)) wants
             ∙ kept_rest (is_for_program w (holds w H t) f) (kept w H) _ (length (got H)) (stamped f) (read w H s) (ap (λ (v : View). v.unread) h.shown))) i;
         senders = (c.offer.ensures.senders ∙ (ap (λ (b : Bool). offered b (option_map name_raw c.holder-sender.result) (map sender_by c.args.self.now.inbox.unread.items)) wants
-            ∙ senders_rest w H t f _ _ (read w H s) (ap (λ (v : View). v.senders) h.shown) (c.holder-sender.ensures.value ∙ (ap (holder_in c.args.self.now.holders) (c.source.ensures ∙ ap (λ (g : FrameRecord). source_of g.id) c.frame.view_is) ∙ table_is w c.args.self.now.holders H (source_of f.id) h.holders)))) i;
+            ∙ senders_rest w H t f _ _ (read w H s) (ap (λ (v : View). v.senders) h.shown) sender_is)) i;
         requests = (c.hear.ensures.waiting ∙ ((λ i. with_request (h.shown i).who (room i) (asks_for i) (map request_by c.args.self.now.desk.waiting.items))
             ∙ request_rest w (nat_lt (length (requests w H) - length (handed H)) 16) (fresh w (drop (length (handed H)) (requests w H)) (asked w (holds w H t) f)) (requests w H)
             (map request_by c.args.self.now.desk.waiting.items) (length (handed H)) (front_length (handed H) (requests w H) s.desk.2) (ap (λ (v : View). v.requests) h.shown))) i;
+        askers = (c.hear.ensures.askers (option_map name_raw c.holder-sender.result) (asker_stays _ _ _ c.fresh-request.ensures.same c.asked-request.ensures.asker)
+            ∙ ((λ i. with_asker (h.shown i).who (room i) (asks_for i) (sender_is i) (map asker_by c.args.self.now.desk.waiting.items))
+            ∙ asker_rest w (nat_lt (length (requests w H) - length (handed H)) 16) asked_now (holder w H (source_of f.id)) (askers w H)
+            (map asker_by c.args.self.now.desk.waiting.items) (length (handed H)) (rw (askers_length w H) (front_length (handed H) (requests w H) s.desk.2)) (ap (λ (v : View). v.askers) h.shown))) i;
         acknowledgments = (ap (λ (v : Who). map (refusal_by v) c.hear.new.self.due.items) (sym (ap (λ (v : View). v.who) h.shown))
             ∙ (c.hear.ensures.due ∙ ((λ i. let v = (h.shown i).who in
             with_refusal v (room i) (place i && not (is_refusal_due v (map (refusal_by v) c.args.self.now.desk.due.items) (asks_for i))) (asks_for i) (map (refusal_by v) c.args.self.now.desk.due.items))

@@ -11,5 +11,5 @@ use Rattle.bus_demo.proofs.bus.station.Station.transfer.Goals as goal
 pub returns : goal.returns
 returns c =
     let now = stamp_micros c.args.now in
-    let call = At now (Transfer (pgn_raw c.args.draft.now.pgn) c.args.to c.args.draft.now.payload.now c.transfer-answer.result) in
+    let call = At now (Transfer 7 (pgn_raw c.args.draft.now.pgn) c.args.to c.args.draft.now.payload.now c.transfer-answer.result) in
     calls_one (is_handing now) call _ _ (eq-eqb now now refl) c.transfer-answer.ensures
