@@ -1,8 +1,9 @@
-/* Two controllers, and a third that misbehaves, on a simulated bus that loses frames, doubles them at once and delays
- * them: that nothing wrong is received and nothing in packets twice, each token is told once and in order, each
- * transfer that is done was received, and all ends in time. Words: how many messages, of a million frames how many are
- * lost and how many doubled, the longest delay in microseconds, 1 if the third plays, a seed. The last line counts the
- * transfers from one to the other, and those that failed. */
+/* Two to eight controllers, and one more that misbehaves, on a simulated bus that loses frames, doubles them at once and delays
+ * them; the first is off the bus at times: that nothing wrong is received and nothing in packets twice, each token is told once
+ * and in order, each transfer that is done was received, and all ends in time. Words: how many messages, of a million frames how
+ * many are lost and how many doubled, the longest delay in microseconds, 1 if the one that misbehaves plays, a seed; and, where
+ * they aren't two for as long as that takes, how many controllers, and for how many seconds. The last line counts the
+ * transfers from one to another, and those that failed. */
 #include "../j1939.h"
 #include "expect.h"
 
@@ -13,17 +14,19 @@ enum {
     STEP = 5000,
     GAP = 50000,
     T3 = 1250000,
+    CLAIM = 250000,
     PAUSE = 1000000,
     QUEUE = 4096,
     BROADCASTS = 0xFF10,
     SINGLES = 0xFF20,
     SERVED = 0xFEEB
 };
-enum { FIRST, SECOND, THIRD, NODES };
+enum { MOST_NODES = 8, THIRD = MOST_NODES, NODES };
 
 static uint64_t state;
 static uint64_t lost, doubled, delay, is_wild;
 static uint64_t now;
+static int count = 2;
 
 /* The next number of a fixed sequence (splitmix64). */
 static uint64_t next(void) {
@@ -61,8 +64,9 @@ static void put(int from, int to, const j1939_frame *frame) {
 }
 
 static void put_to_others(int from, const j1939_frame *frame) {
-    for (int to = 0; to < NODES; to++)
-        if (to != from && (to != THIRD || is_wild)) put(from, to, frame);
+    for (int to = 0; to < count; to++)
+        if (to != from) put(from, to, frame);
+    if (is_wild && from != THIRD) put(from, THIRD, frame);
 }
 
 /* The next frame that comes to this node now. */
@@ -88,8 +92,19 @@ static uint32_t group_of(int32_t kind, int sender) {
                                               : SINGLES;
 }
 
-enum { MOST = 1 << 20 };
-static uint8_t was_received[NODES][NODES][MOST];
+enum { MOST = 1 << 22 };
+static uint8_t was_received[MOST_NODES][MOST_NODES][MOST / 8];
+
+static int has_received(int receiver, int sender, uint32_t serial) {
+    return was_received[receiver][sender][serial / 8] >> serial % 8 & 1;
+}
+
+/* Whether one of them has: who sends may not have heard the claim by which another holds the address now. */
+static int is_received(int sender, uint32_t serial) {
+    for (int receiver = 0; receiver < count; receiver++)
+        if (has_received(receiver, sender, serial)) return 1;
+    return 0;
+}
 
 static void fill(uint8_t *bytes, size_t size, int kind, int sender, uint32_t serial) {
     uint64_t kept = state;
@@ -108,23 +123,25 @@ typedef struct {
     uint32_t serial;
     unsigned packets;
     uint8_t to;
+    int is_open;
 } open_message;
 
 static struct node {
     j1939_controller controller;
     uint64_t name;
-    open_message singles[16], broadcast, transfer, ask;
+    open_message singles[16], broadcast, transfers[MOST_NODES], ask;
     unsigned first_single, last_single;
-    int has_broadcast, has_transfer, has_ask;
     uint64_t single_tokens, broadcast_tokens, transfer_tokens;
     uint64_t last_packet, heard[256];
     uint32_t serial;
     uint64_t accepted, well[5], failed;
-} nodes[2];
+    uint64_t back; /* when it is on the bus again; 0 where it is */
+} nodes[MOST_NODES];
 
 static void opens(struct node *node, uint64_t name, uint8_t address) {
     static const uint32_t served[] = {SERVED};
-    j1939_setup setup = {.name = name, .address = address, .delay = (uint8_t)name, .broadcasts = 1, .sessions = 1, .transfers = 1, .served = served, .served_count = 1};
+    j1939_setup setup = {.name = name, .address = address, .delay = (uint8_t)name, .served = served, .served_count = 1};
+    setup.broadcasts = setup.sessions = setup.transfers = (uint8_t)(count - 1);
     node->name = name;
     EXPECT(j1939_controller_new(&node->controller, &setup) == 0);
 }
@@ -150,42 +167,55 @@ static void receives(int self, int32_t kind, const j1939_message *message) {
     uint32_t serial = (uint32_t)(message->data[1] | message->data[2] << 8 | message->data[3] << 16);
     if (kind == J1939_RECEIVED_FRAME && message->pgn != SINGLES) return;
     if (message->source == 0x30) return;
-    EXPECT(message->len >= 4 && sender < 2 && sender != self && sent == kind && serial < MOST);
+    EXPECT(message->len >= 4 && sender < count && sender != self && sent == kind && serial < MOST);
     EXPECT(message->pgn == group_of(kind, sender));
     fill(bytes, message->len, kind, sender, serial);
     EXPECT(!memcmp(bytes, message->data, message->len));
     if (kind == J1939_RECEIVED_FRAME) return;
-    EXPECT(!was_received[self][sender][serial]);
-    was_received[self][sender][serial] = 1;
+    EXPECT(!has_received(self, sender, serial));
+    was_received[self][sender][serial / 8] |= (uint8_t)(1 << serial % 8);
+}
+
+/* What was accepted under this token: of transfers one is open to each. */
+static open_message *open_of(open_message *messages, int most, uint64_t token) {
+    for (int i = 0; i < most; i++)
+        if (messages[i].is_open && messages[i].token == token) return &messages[i];
+    EXPECT(!"it was accepted, and isn't told");
+    return NULL;
+}
+
+/* A transfer is over: if it is done, it was received. */
+static void ends_transfer(int self, const j1939_ended *ended) {
+    struct node *node = &nodes[self];
+    open_message *it = open_of(node->transfers, count, ended->token);
+    int is_done = ended->ending == J1939_ENDED_DONE;
+    it->is_open = 0;
+    if (it->to == 0x30) return;
+    EXPECT(!is_done || is_received(self, it->serial));
+    node->well[J1939_ENDED_TRANSFER] += (uint64_t)is_done;
+    node->failed += !is_done;
 }
 
 /* Each token is told once, in order; and what is done was received. */
 static void ends(int self, int32_t kind, const j1939_ended *ended) {
     struct node *node = &nodes[self];
-    int is_done = ended->ending == J1939_ENDED_DONE,
-        is_third = kind == J1939_ENDED_TRANSFER && node->transfer.to == 0x30;
-    if (!is_third) node->well[kind] += is_done || ended->ending == J1939_ENDED_ACKNOWLEDGED;
+    if (kind == J1939_ENDED_TRANSFER) {
+        ends_transfer(self, ended);
+        return;
+    }
+    node->well[kind] += ended->ending == J1939_ENDED_DONE || ended->ending == J1939_ENDED_ACKNOWLEDGED;
     switch (kind) {
     case J1939_ENDED_MESSAGE:
         EXPECT(node->first_single < node->last_single && node->singles[node->first_single % 16].token == ended->token);
         node->first_single++;
         break;
-    case J1939_ENDED_BROADCAST:
-        EXPECT(node->has_broadcast && node->broadcast.token == ended->token);
-        node->has_broadcast = 0;
-        break;
-    case J1939_ENDED_TRANSFER:
-        EXPECT(node->has_transfer && node->transfer.token == ended->token);
-        EXPECT(is_third || !is_done || was_received[!self][self][node->transfer.serial]);
-        node->failed += !is_third && !is_done;
-        node->has_transfer = 0;
-        break;
-    default: EXPECT(node->has_ask && node->ask.token == ended->token); node->has_ask = 0;
+    case J1939_ENDED_BROADCAST: open_of(&node->broadcast, 1, ended->token)->is_open = 0; break;
+    default: open_of(&node->ask, 1, ended->token)->is_open = 0;
     }
 }
 
 static int is_late(const open_message *it, uint64_t limit) {
-    return now - it->accepted > limit;
+    return now > it->accepted + limit;
 }
 
 /* A request is told in time; where a transfer of whom was asked comes meanwhile, once that is whole or has broken off: its
@@ -195,14 +225,21 @@ static int is_told(const struct node *node) {
     return !is_late(&node->ask, T3 + 2 * STEP) || (heard && now - heard <= 4 * (T3 + STEP) + STEP);
 }
 
+/* Without it a transfer would end after so long. */
+static uint64_t time_of(const open_message *transfer) {
+    return (transfer->packets + 65) * (uint64_t)(T3 + STEP) + STEP;
+}
+
 /* All that is open is in time: a message of one frame for a step, a broadcast for as long as its packets take, a
  * transfer till its receiver gave up or cleared nothing new too often. */
 static void is_in_time(const struct node *node) {
+    if (node->back) return;
     if (node->first_single < node->last_single) EXPECT(!is_late(&node->singles[node->first_single % 16], STEP));
-    if (node->has_broadcast) EXPECT(!is_late(&node->broadcast, (node->broadcast.packets + 1) * (uint64_t)(GAP + STEP)));
-    if (node->has_transfer)
-        EXPECT(!is_late(&node->transfer, (node->transfer.packets + 65) * (uint64_t)(T3 + STEP) + STEP));
-    if (node->has_ask) EXPECT(is_told(node));
+    if (node->broadcast.is_open)
+        EXPECT(!is_late(&node->broadcast, (node->broadcast.packets + 1) * (uint64_t)(GAP + STEP)));
+    for (int to = 0; to < count; to++)
+        if (node->transfers[to].is_open) EXPECT(!is_late(&node->transfers[to], time_of(&node->transfers[to])));
+    if (node->ask.is_open) EXPECT(is_told(node));
 }
 
 static void sends_single(int self) {
@@ -230,41 +267,44 @@ static void broadcasts(int self) {
     open_message it = {.accepted = now, .serial = node->serial, .packets = (unsigned)(size + 6) / 7};
     fill(bytes, size, J1939_RECEIVED_BROADCAST, self, node->serial);
     if (j1939_controller_send(&node->controller, now, 7, BROADCASTS, 255, bytes, size, &it.token) != 1) return;
-    EXPECT(!node->has_broadcast && it.token == 4 * node->broadcast_tokens++ + 1);
+    EXPECT(!node->broadcast.is_open && it.token == 4 * node->broadcast_tokens++ + 1);
     node->broadcast = it;
-    node->has_broadcast = 1;
+    node->broadcast.is_open = 1;
     node->accepted++;
     node->serial++;
 }
 
-/* To the other, wherever its NAME is; or, where the third plays, at times to that. */
+/* One of the others. */
+static int another(int self) {
+    return (self + 1 + (int)(next() % (uint64_t)(count - 1))) % count;
+}
+
+/* To another, wherever its NAME is; or, where one misbehaves, at times to that, in its place. */
 static void transfers(int self) {
     struct node *node = &nodes[self];
     uint8_t bytes[J1939_LONGEST];
+    int to = another(self);
     size_t size = size_of_message();
-    open_message it = {.accepted = now, .serial = node->serial, .packets = (unsigned)(size + 6) / 7, .to = 0x30};
-    if (!(is_wild && next() % 64 == 0) &&
-        j1939_controller_address_of(&node->controller, nodes[!self].name, &it.to) != 1)
-        return;
+    open_message it = {.accepted = now, .serial = node->serial, .packets = (unsigned)(size + 6) / 7, .to = 0x30, .is_open = 1};
+    if (node->transfers[to].is_open) return;
+    if (!(is_wild && next() % 64 == 0) && j1939_controller_address_of(&node->controller, nodes[to].name, &it.to) != 1) return;
     uint32_t group = group_of(J1939_RECEIVED_TRANSFER, it.to == 0x30 ? THIRD : self);
     fill(bytes, size, J1939_RECEIVED_TRANSFER, self, node->serial);
     if (j1939_controller_send(&node->controller, now, 7, group, it.to, bytes, size, &it.token) != 1) return;
-    EXPECT(!node->has_transfer && it.token == 4 * node->transfer_tokens++ + 2);
-    node->transfer = it;
-    node->has_transfer = 1;
+    EXPECT(it.token == 4 * node->transfer_tokens++ + 2);
+    node->transfers[to] = it;
     node->accepted++;
     node->serial++;
 }
 
-/* The other is asked for a group, which it acknowledges. */
+/* Another is asked for a group, which it acknowledges. */
 static void asks(int self) {
     struct node *node = &nodes[self];
-    open_message it = {.accepted = now};
-    if (j1939_controller_address_of(&node->controller, nodes[!self].name, &it.to) != 1) return;
+    open_message it = {.accepted = now, .is_open = 1};
+    if (j1939_controller_address_of(&node->controller, nodes[another(self)].name, &it.to) != 1) return;
     if (j1939_controller_ask(&node->controller, now, SERVED, it.to, &it.token) != 1) return;
-    EXPECT(!node->has_ask && it.token == 4 * node->single_tokens++);
+    EXPECT(!node->ask.is_open && it.token == 4 * node->single_tokens++);
     node->ask = it;
-    node->has_ask = 1;
     node->singles[node->last_single++ % 16] = it;
     node->accepted++;
 }
@@ -276,7 +316,8 @@ static void moves(int self) {
     if (j1939_controller_status(&node->controller, &address) != J1939_CANNOT) return;
     if (j1939_controller_free_address(&node->controller, &address) != 1) return;
     if (j1939_controller_move_to(&node->controller, address) != 1) return;
-    EXPECT(node->first_single == node->last_single && !node->has_broadcast && !node->has_transfer && !node->has_ask);
+    EXPECT(node->first_single == node->last_single && !node->broadcast.is_open && !node->ask.is_open);
+    for (int to = 0; to < count; to++) EXPECT(!node->transfers[to].is_open);
     node->single_tokens = node->broadcast_tokens = node->transfer_tokens = 0;
 }
 
@@ -289,7 +330,7 @@ static void takes_all(int self) {
     uint8_t priority;
     int32_t kind;
     EXPECT(j1939_controller_tick(&node->controller, now) == 0);
-    while (j1939_controller_take_frame(&node->controller, now, &frame) == 1) sends(self, &frame);
+    while (!node->back && j1939_controller_take_frame(&node->controller, now, &frame) == 1) sends(self, &frame);
     while ((kind = j1939_controller_take_received(&node->controller, &message, &priority)) > 0)
         receives(self, kind, &message);
     while ((kind = j1939_controller_take_ended(&node->controller, &ended)) > 0) ends(self, kind, &ended);
@@ -305,20 +346,39 @@ static void notes(struct node *node, const j1939_frame *frame) {
     if (to != 255 && (group == 0xEB || (group == 0xEC && frame->data[0] == 16))) node->heard[(uint8_t)frame->id] = now;
 }
 
+/* What is open counts from when it can go again: its claim takes 250 ms. */
+static void counts_anew(open_message *messages, int most) {
+    for (int i = 0; i < most; i++) messages[i].accepted = now + CLAIM + STEP;
+}
+
+/* Now and then its bus is gone, for up to ten seconds: it hears nothing, and nothing goes. */
+static void loses_bus(struct node *node) {
+    if (!node->back && next() % 65536 == 0) node->back = now + 1 + next() % 10000000;
+    if (!node->back || now < node->back) return;
+    node->back = 0;
+    EXPECT(j1939_controller_again(&node->controller, now) == 0);
+    counts_anew(node->singles, 16);
+    counts_anew(&node->broadcast, 1);
+    counts_anew(node->transfers, count);
+    counts_anew(&node->ask, 1);
+}
+
 /* A turn of a controller: what came, what its program hands in, what goes. */
 static void turns(int self) {
     struct node *node = &nodes[self];
     j1939_frame frame;
+    if (count > 2 && self == 0) loses_bus(node);
     while (comes(self, &frame)) {
+        if (node->back) continue;
         notes(node, &frame);
         EXPECT(j1939_controller_hear(&node->controller, &frame, frame.micros) == 0);
         takes_all(self);
     }
     moves(self);
     if (next() % 16 == 0) sends_single(self);
-    if (!node->has_broadcast && now - node->last_packet > PAUSE && next() % 64 == 0) broadcasts(self);
-    if (!node->has_transfer && next() % 8 == 0) transfers(self);
-    if (!node->has_ask && next() % 1024 == 0) asks(self);
+    if (!node->broadcast.is_open && now - node->last_packet > PAUSE && next() % 64 == 0) broadcasts(self);
+    if (next() % 8 == 0) transfers(self);
+    if (!node->ask.is_open && next() % 1024 == 0) asks(self);
     takes_all(self);
 }
 
@@ -339,13 +399,13 @@ static void claims(uint8_t address) {
     put_to_others(THIRD, &frame);
 }
 
-/* It holds for ever what each of the two announced to it last. */
+/* It holds for ever what each address announced to it last. */
 static void holds(void) {
-    static j1939_frame announced[2];
+    static j1939_frame announced[256];
     j1939_frame frame;
     while (comes(THIRD, &frame))
-        if ((uint16_t)(frame.id >> 8) == 0xEC30 && frame.data[0] == 16) announced[(frame.id & 0xFF) != 0x80] = frame;
-    for (int i = 0; i < 2 && now % 500000 == 0; i++) {
+        if ((uint16_t)(frame.id >> 8) == 0xEC30 && frame.data[0] == 16) announced[(uint8_t)frame.id] = frame;
+    for (int i = 0; i < 256 && now % 500000 == 0; i++) {
         if (!announced[i].len) continue;
         frame = frame_of_third(7, 0xEC, (uint8_t)announced[i].id);
         const uint8_t hold[8] = {17, 0, 1, 255, 255, announced[i].data[5], announced[i].data[6], announced[i].data[7]};
@@ -354,12 +414,12 @@ static void holds(void) {
     }
 }
 
-/* A frame of the protocol, a request, an acknowledgment or another, to one of the two or to all. */
+/* A frame of the protocol, a request, an acknowledgment or another, to one of them or to all. */
 static void disturbs(void) {
     static const uint8_t groups[] = {0xEC, 0xEC, 0xEB, 0xEA, 0xEA, 0xE8, 0xEF}, firsts[] = {16, 17, 19, 32, 255};
     uint8_t to = 255, group = groups[next() % sizeof groups];
-    unsigned which = (unsigned)(next() % 3);
-    if (which < 2 && j1939_controller_status(&nodes[which].controller, &to) == J1939_CANNOT) to = 255;
+    int which = (int)(next() % (unsigned)(count + 1));
+    if (which < count && j1939_controller_status(&nodes[which].controller, &to) == J1939_CANNOT) to = 255;
     j1939_frame frame = frame_of_third((uint8_t)(next() % 8), group, to);
     const uint8_t signal[8] = {firsts[next() % 5],
                                (uint8_t)(9 + next() % 20),
@@ -367,43 +427,50 @@ static void disturbs(void) {
                                (uint8_t)(2 + next() % 2),
                                255,
                                0,
-                               (uint8_t)(0xD0 + next() % 2),
+                               (uint8_t)(0xD0 + next() % (unsigned)count),
                                0};
     if (group == 0xEC) memcpy(frame.data, signal, 8);
     if (group == 0xEB) frame.data[0] = (uint8_t)(1 + next() % 4);
     put_to_others(THIRD, &frame);
 }
 
-/* It takes the address of one of the two at times, and its own again. */
+/* It takes the address of one of them at times, and its own again. */
 static void misbehaves(void) {
     uint8_t address;
     holds();
     for (unsigned n = (unsigned)(next() % 4); n > 0; n--) disturbs();
     if (next() % 8192 == 0) {
-        if (j1939_controller_status(&nodes[next() % 2].controller, &address) == J1939_HOLDING) claims(address);
+        if (j1939_controller_status(&nodes[next() % (unsigned)count].controller, &address) == J1939_HOLDING) claims(address);
     } else if (next() % 512 == 0) {
         claims(0x30);
     }
 }
 
-int main(int count, char **words) {
-    EXPECT(count == 7);
-    uint64_t messages = strtoull(words[1], NULL, 10);
-    lost = strtoull(words[2], NULL, 10);
-    doubled = strtoull(words[3], NULL, 10);
-    delay = strtoull(words[4], NULL, 10);
-    is_wild = strtoull(words[5], NULL, 10);
-    state = strtoull(words[6], NULL, 10);
-    opens(&nodes[FIRST], 0x8000000001400001, 0x80);
-    opens(&nodes[SECOND], 0x8000000001400002, 0x90);
-    while (nodes[FIRST].accepted + nodes[SECOND].accepted < messages) {
-        turns(FIRST);
-        turns(SECOND);
+/* Till so many messages were accepted, or this moment. */
+static void plays(uint64_t messages, uint64_t end) {
+    uint64_t accepted = 0;
+    while (accepted < messages && now < end) {
+        accepted = 0;
+        for (int i = 0; i < count; i++) {
+            turns(i);
+            accepted += nodes[i].accepted;
+        }
         if (is_wild) misbehaves();
         now += STEP;
     }
+}
+
+int main(int words, char **word) {
+    EXPECT(words == 7 || words == 9);
+    uint64_t numbers[9] = {[7] = 2, [8] = 1000000000};
+    for (int i = 1; i < words; i++) numbers[i] = strtoull(word[i], NULL, 10);
+    lost = numbers[2], doubled = numbers[3], delay = numbers[4], is_wild = numbers[5], state = numbers[6];
+    count = (int)numbers[7];
+    EXPECT(2 <= count && count <= MOST_NODES);
+    for (int i = 0; i < count; i++) opens(&nodes[i], 0x8000000001400001 + (uint64_t)i, (uint8_t)(0x80 + 0x10 * i));
+    plays(numbers[1], numbers[8] * 1000000);
     uint64_t told[5] = {0}, failed = 0;
-    for (int i = 0; i < 2; i++) {
+    for (int i = 0; i < count; i++) {
         for (int kind = 1; kind < 5; kind++) told[kind] += nodes[i].well[kind];
         failed += nodes[i].failed;
         EXPECT(j1939_controller_close(&nodes[i].controller) == 0);
