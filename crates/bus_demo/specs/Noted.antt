@@ -32,7 +32,7 @@ abbrev pub done_by : Option (ℕ × TransferEnding) → Option ℕ → List ℕ
 done_by (Some (token, Done)) number = listed number
 done_by ended number = []
 
--- what a display has received of what is broadcast in packets
+-- what a display has received of what is broadcast in packets (J1939-21, 5.10.3.5)
 abbrev pub shown_to : Bool → Option (ℕ × MessageRecord) → List (ℕ × MessageRecord)
 shown_to true broadcast = listed broadcast
 shown_to false broadcast = []
