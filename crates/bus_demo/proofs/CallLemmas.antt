@@ -1,11 +1,16 @@
 -- Calls of a kind, one after another.
-use Rattle.std.proofs.Common.{◌≡◌, ◌++◌, ◌∷◌, ◌∙◌, ◌&&◌, [], Bool, List, refl, subst, sym, true}
+use Rattle.std.proofs.Common.{◌≡◌, ◌++◌, ◌∷◌, ◌∙◌, ◌&&◌, [], ℕ, Bool, List, Result, eq-eqb, refl, subst, sym, true}
 use Rattle.std.proofs.lemmas.List.{append_assoc}
 use Rattle.std.proofs.lemmas.List.Folds.{list_all-append}
 use Rattle.j39_node.specs.declared.controller.Controller.{Controller}
-use Rattle.j39_node.specs.History.{Call}
+use Rattle.j39_node.specs.declared.kinds.Refused.{Refused}
+use Rattle.j39_node.specs.History.{Call, Draft}
+use Rattle.j39_node.specs.History.Call.{At}
 use Rattle.j39_node.specs.Is.{Is}
-use Rattle.bus_demo.specs.Calls.{Calls, Continues}
+use Rattle.j39_application.specs.Sending.{sent_as, sent_by, way_of}
+use Rattle.j39_application.specs.declared.sending.Way.{Way}
+use Rattle.j39_application.specs.declared.sending.Way.TheVariants as way
+use Rattle.bus_demo.specs.Calls.{Calls, Continues, is_handing}
 
 module _ (kind : Call → Bool) where
   pub calls_none : (c : Controller) → Calls kind c c
@@ -22,3 +27,14 @@ module _ (kind : Call → Bool) where
         list_all-append kind two.0 one.0 ∙ (λ i. two.1 i && one.1 i),
         subst (λ (K : List Call). Is w K new) (sym (append_assoc two.0 one.0 H)) two.2,
       )
+
+-- a message that is handed in is, whatever its way is
+is_handed : (way : Way) (now : ℕ) (draft : Draft) (answer : Result ℕ Refused) → is_handing now (At now (sent_by way draft answer)) ≡ true
+is_handed way.Frame now draft answer = eq-eqb now now refl
+is_handed way.Broadcast now draft answer = eq-eqb now now refl
+is_handed way.Transfer now draft answer = eq-eqb now now refl
+
+pub handed : (now : ℕ) (draft : Draft) (answer : Result ℕ Refused) (old new : Controller) → Continues (At now (sent_as draft answer)) old new
+    → Calls (is_handing now) old new
+handed now draft answer old new goes =
+    calls_one (is_handing now) (At now (sent_as draft answer)) old new (is_handed (way_of draft) now draft answer) goes

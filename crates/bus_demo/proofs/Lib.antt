@@ -7,3 +7,5 @@ mod TellingLemmas
 mod PlayerLemmas
 -- what was noted
 mod NotedLemmas
+-- the players of a scenario
+mod ScenarioLemmas

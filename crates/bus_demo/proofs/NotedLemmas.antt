@@ -1,5 +1,5 @@
 -- What is noted in the book stays there; what was due is due again.
-use Rattle.std.proofs.Common.{◌≡◌, ◌≤◌, ◌<◌, ◌++◌, ◌∷◌, ◌∙◌, [], ℕ, zero, suc, List, None, Option, Some, ap, arith, inl, inr, length, length-append, ltb-false, ltb-true, nat_lt, refl, slice_get, subst, sym}
+use Rattle.std.proofs.Common.{◌≡◌, ◌≤◌, ◌<◌, ◌∷◌, ◌∙◌, [], ℕ, zero, suc, List, None, Option, Some, ap, arith, inl, inr, length, ltb-false, ltb-true, nat_lt, refl, slice_get, subst, sym}
 use Rattle.std.proofs.lemmas.Bool.{cases_Bool}
 use Rattle.j39_address.specs.Name.{name_raw}
 use Rattle.bus_demo.specs.Publishing.{AreDueAgain, AreNoted, rate_after}

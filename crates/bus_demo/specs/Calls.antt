@@ -1,5 +1,6 @@
 -- What the demo does with a controller, told by the calls that it makes.
-use Rattle.std.specs.Prelude.{◌≡◌, ◌++◌, ◌==◌, ℕ, Bool, true, false, List, ◌∷◌, Option, Some, None, if◌then◌else◌}
+use Rattle.std.specs.Prelude.{◌≡◌, ◌++◌, ◌==◌, ℕ, Bool, true, false, List, ◌∷◌, Option, Some, None, Result, if◌then◌else◌}
+use Rattle.std.specs.Result.{is_ok}
 use Rattle.std.specs.List.{list_all}
 use Rattle.j39_frame.specs.Frame.{FrameRecord}
 use Rattle.j39_address.specs.Command.{Command, commanded_of}
@@ -7,10 +8,12 @@ use Rattle.j39_address.specs.declared.status.Status.{Status}
 use Rattle.j39_address.specs.declared.status.Status.TheVariants.{Idle, Claiming, Holding, Cannot}
 use Rattle.j39_transport.specs.Message.{MessageRecord}
 use Rattle.j39_node.specs.declared.controller.Controller.{Controller}
-use Rattle.j39_node.specs.History.{Who, Call}
-use Rattle.j39_node.specs.History.Call.{At, TakeEnded, TakeBroadcastEnded, TakeTransferEnded, TakeReceived, TakeNews, ReleaseTransfer, ReleaseBroadcast}
+use Rattle.j39_node.specs.History.{Call, Draft, Who}
+use Rattle.j39_node.specs.History.Call.{At, TakeAskEnded, TakeEnded, TakeBroadcastEnded, TakeTransferEnded, TakeReceived, TakeNews, ReleaseTransfer, ReleaseBroadcast}
 use Rattle.j39_node.specs.History.Act.{Hear, Tick, TakeFrame, Send, Broadcast, Transfer}
 use Rattle.j39_node.specs.Is.{Is, status_after}
+use Rattle.j39_node.specs.declared.kinds.Refused.{Refused}
+use Rattle.j39_application.specs.Sending.{sent_as}
 
 -- this call was made, whatever was called before
 abbrev pub Continues : Call → Controller → Controller → Type 0
@@ -21,11 +24,18 @@ abbrev pub Calls : (Call → Bool) → Controller → Controller → Type 0
 Calls kind old new =
     (w : Who) (H : List Call) → Is w H old → (more : List Call) × (list_all kind more ≡ true) × Is w (more ++ H) new
 
+-- this message was handed in at this moment, whatever its way is, and accepted or refused
+pub record HandsIn (micros : ℕ) (draft : Draft) (accepted : Bool) (old new : Controller) : Type 0 where
+  pub answer : Result ℕ Refused
+  pub accepts : accepted ≡ is_ok answer
+  pub goes : Continues (At micros (sent_as draft answer)) old new
+
 -- it takes what there is for the program
 abbrev pub is_taking : Call → Bool
 is_taking (TakeEnded answer) = true
 is_taking (TakeBroadcastEnded answer) = true
 is_taking (TakeTransferEnded answer) = true
+is_taking (TakeAskEnded answer) = true
 is_taking (TakeReceived answer) = true
 is_taking (TakeNews answer) = true
 is_taking (ReleaseTransfer answer) = true

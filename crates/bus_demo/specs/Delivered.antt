@@ -1,5 +1,6 @@
 -- Which message that was handed in is the one that a receiver delivered.
-use Rattle.std.specs.Prelude.{◌≡◌, ◌≤◌, ℕ, List, Option, Some, IsSome, slice_get, suc}
+use Rattle.std.specs.Prelude.{◌≡◌, ◌≢◌, ◌≤◌, ℕ, List, Option, Some, slice_get, suc}
+use Rattle.j39_frame.specs.Address.{global_address}
 use Rattle.j39_frame.specs.Pgn.{pgn_raw}
 use Rattle.j39_frame.specs.Stamp.{stamp_micros}
 use Rattle.j39_frame.specs.declared.stamp.Stamp.{Stamp}
@@ -9,7 +10,7 @@ use Rattle.bus_demo.specs.declared.bus.book.Handed.{Handed}
 
 -- it goes to one controller, and has the source, the group and the payload of what was delivered
 pub record IsOf (delivered : MessageRecord) (handed : Handed) : Type 0 where
-  pub to_one : IsSome handed.to
+  pub to_one : handed.to ≢ global_address
   pub source : handed.address ≡ delivered.source
   pub group : pgn_raw handed.pgn ≡ delivered.pgn
   pub payload : handed.payload.items ≡ delivered.bytes

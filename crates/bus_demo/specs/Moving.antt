@@ -1,5 +1,5 @@
 -- How a controller moves to another address.
-use Rattle.std.specs.Prelude.{◌≡◌, ◌≢◌, ◌⊎◌, ℕ, [], List, Option, None, Some}
+use Rattle.std.specs.Prelude.{◌≡◌, ◌≢◌, ◌⊎◌, ℕ, List, Option, None, Some}
 use Rattle.j39_frame.specs.Address.{IsAddress}
 use Rattle.j39_address.specs.Claim.{claims_of}
 use Rattle.j39_address.specs.Node.{IsLeastFree, NoneFree}

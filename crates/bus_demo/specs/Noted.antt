@@ -1,5 +1,5 @@
 -- What the book notes of what a controller received, and of how its transfers ended.
-use Rattle.std.specs.Prelude.{◌≡◌, ◌++◌, ◌∷◌, ℕ, List, [], Option, None, Some, map}
+use Rattle.std.specs.Prelude.{◌≡◌, ◌++◌, ◌∷◌, ℕ, Bool, true, false, List, [], Option, None, Some, map}
 use Rattle.std.specs.List.{slice_get}
 use Rattle.j39_frame.specs.Frame.{FrameRecord}
 use Rattle.j39_frame.specs.Pgn.{pgn_raw}
@@ -8,6 +8,7 @@ use Rattle.j39_transport.specs.Message.{MessageRecord}
 use Rattle.j39_node.specs.History.{Who, Call}
 use Rattle.j39_node.specs.History.Call.{At}
 use Rattle.j39_node.specs.History.Act.{Hear}
+use Rattle.j39_node.specs.Hearing.{waiting}
 use Rattle.j39_node.specs.Reception.{reception}
 use Rattle.j39_node.specs.Transfers.{next_transfer_ended}
 use Rattle.j39_transfers.specs.declared.kinds.Ending.{Ending as TransferEnding}
@@ -31,7 +32,14 @@ abbrev pub done_by : Option (ℕ × TransferEnding) → Option ℕ → List ℕ
 done_by (Some (token, Done)) number = listed number
 done_by ended number = []
 
--- the message in packets that lies there once the frame was heard is noted, and the transfer that is then done
-pub record IsNoted (w : Who) (H : List Call) (f : FrameRecord) (number : Option ℕ) (old new : Book) : Type 0 where
-  pub delivered : delivered_in new ≡ delivered_in old ++ listed (slice_get (reception w (At f.stamp (Hear f) ∷ H)).waits 0)
+-- what a display has received of what is broadcast in packets (J1939-21, 5.10.3.5)
+abbrev pub shown_to : Bool → Option (ℕ × MessageRecord) → List (ℕ × MessageRecord)
+shown_to true broadcast = listed broadcast
+shown_to false broadcast = []
+
+-- the messages in packets that lie there once the frame was heard are noted: to all, if it is a display, and to its address; and the
+-- transfer that is then done
+pub record IsNoted (w : Who) (H : List Call) (f : FrameRecord) (is_display : Bool) (number : Option ℕ) (old new : Book) : Type 0 where
+  pub delivered : delivered_in new ≡ (delivered_in old ++ shown_to is_display (slice_get (waiting w (At f.stamp (Hear f) ∷ H)) 0))
+      ++ listed (slice_get (reception w (At f.stamp (Hear f) ∷ H)).waits 0)
   pub done : new.done.items ≡ old.done.items ++ done_by (next_transfer_ended w (At f.stamp (Hear f) ∷ H)) number

@@ -36,6 +36,7 @@ pub record IsHeard (old : Player) (f : FrameRecord) (new : Player) : Type 0 wher
 -- the player's loop turned at this moment: time passed, it moved where it had to, and it handed in what was due where it held
 -- an address and had to claim no other. It turns again 10 ms later
 pub record IsTurned (old : Player) (micros : ℕ) (new : Player) : Type 0 where
+  pub own : (new.name ≡ old.name) × (new.is_display ≡ old.is_display) × (new.starts ≡ old.starts)
   pub due : new.due ≡ min (old.due + 10000) (2 ^ 64 - 1)
   pub ticked : Controller
   pub ticks : Ticked micros (controller_of old) ticked
@@ -74,7 +75,7 @@ HaveTurned micros old new = HappenedBelow (λ _. HadTurn micros) (length old) ol
 -- what a player heard of a frame was noted
 abbrev pub IsHeardNoted : Player → FrameRecord → Book → Book → Type 0
 IsHeardNoted player f old new =
-    (w : Who) (H : List Call) → Is w H (controller_of player) → IsNoted w H f player.station.transfer old new
+    (w : Who) (H : List Call) → Is w H (controller_of player) → IsNoted w H f player.is_display player.station.transfer old new
 
 -- so it is with the player at a place, where it isn't the sender
 abbrev pub IsNotedAt : ℕ → ℕ → FrameRecord → List Player → Book → Book → Type 0

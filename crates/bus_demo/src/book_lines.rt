@@ -2,7 +2,6 @@
 use crate::bus::Bus;
 use crate::bus::book::{Delivery, Fate, Handed};
 use crate::bus::player::Player;
-use j39_frame::GLOBAL_ADDRESS;
 use std::io;
 
 /// Writes to standard error what was handed in and what became of it, what was delivered, what senders count as done,
@@ -34,8 +33,8 @@ fn tell_message(rt: &HostRuntime, message: &Handed) -> io::Result<()> {
         Fate::Lost => eprint!(rt; "handed lost -")?,
         Fate::Withdrawn => eprint!(rt; "handed withdrawn -")?,
     }
-    let (address, name, pgn) = (message.address, message.name.raw(), message.pgn.raw());
-    let to = message.to.unwrap_or(GLOBAL_ADDRESS);
+    let (address, name) = (message.address, message.name.raw());
+    let (to, pgn) = (message.to, message.pgn.raw());
     eprint!(rt; " {address:02X} {name:016X} {to:02X} {pgn} ")?;
     tell_bytes(rt, message.payload.as_slice())
 }

@@ -14,6 +14,7 @@ ghost use Rattle.bus_demo.specs.declared.bus.BusFault.TheVariants.{Memory, Write
 mod arbitration;
 pub(crate) mod book;
 pub(crate) mod diagnostics;
+pub(crate) mod display;
 pub(crate) mod gauges;
 pub(crate) mod losses;
 pub(crate) mod player;

@@ -8,7 +8,7 @@ mod words;
 use book_lines::tell_book;
 use bus::book::Book;
 use bus::player::Player;
-use bus::{Bus, BusFault, losses, scenario};
+use bus::{Bus, BusFault, display, losses, scenario};
 use j39_io::{Sink, Told};
 use j39_log::{Line, read_line};
 use std::io::BufWriter;
@@ -37,6 +37,7 @@ fn play(rt: &HostRuntime, words: &Words) -> io::Result<u8> {
     let mut out = Told::new(BufWriter::with_capacity(rt.alloc(), OUT_BUFFER, rt.stdout())?);
     let controllers = match words.loss {
         Some(loss) => losses::controllers(rt.alloc(), words.seed, loss)?,
+        None if words.display => display::controllers(rt.alloc(), words.seed)?,
         None => scenario::controllers(rt.alloc(), words.seed, words.outside)?,
     };
     let mut bus = Bus::new(rt.alloc(), controllers, words.lose.as_slice());

@@ -27,6 +27,9 @@ as lines of a log. The bus goes on to the moment of each, all hear it, and it is
 line of the log as well. One of the four then asks address 00 for its vehicle's
 identification.
 
+With --display six controllers tell their faults each second, all at once and in
+packets, and a display hears them: what it received is in the book as delivered.
+
 With --loss little is sent but what a loss is for: the engine's rival takes its
 address a second after the start, while the engine broadcasts, sends to the tool or
 receives from it; or the tool sends two messages to the gearbox, or commands it.
@@ -52,7 +55,9 @@ pub(crate) struct Words {
     pub book: bool,
     /// Whether frames of a controller outside come on standard input.
     pub outside: bool,
-    /// What is lost, where that is played in the place of the four.
+    /// Whether six that tell their faults and a display are played in the place of the four.
+    pub display: bool,
+    /// What is lost, where that is played in their place.
     pub loss: Option<Loss>,
 }
 
@@ -92,6 +97,7 @@ fn words_of(alloc: Global, matches: &ArgMatches<'_>) -> Result<Words, Refusal> {
         lose: numbers(alloc, matches.get_str("lose"))?,
         book: matches.get_flag("book"),
         outside: matches.get_flag("outside"),
+        display: matches.get_flag("display"),
         loss: loss_of(matches.get_str("loss"))?,
     })
 }
@@ -103,6 +109,7 @@ fn command<'a>(alloc: Global) -> Result<Command<'a>, AllocError> {
     let lose = "The frames that are lost, counted from 1";
     let book = "Tell what was handed in, and what became of it, in the place of the counts";
     let outside = "Take the frames of one more controller from standard input";
+    let display = "Play six controllers that tell their faults in packets, and a display";
     let loss = "Play a loss: broadcast, transfer, session, request or command";
     let args = [
         option(alloc, "seed", "N", seed),
@@ -110,6 +117,7 @@ fn command<'a>(alloc: Global) -> Result<Command<'a>, AllocError> {
         option(alloc, "lose", "N,N..", lose),
         flag(alloc, "book", book),
         flag(alloc, "outside", outside),
+        flag(alloc, "display", display),
         option(alloc, "loss", "WHAT", loss),
     ];
     let args = Vec::from_array(alloc, args)?;

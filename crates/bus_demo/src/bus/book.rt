@@ -9,7 +9,7 @@ ghost use Rattle.j39_frame.specs.Stamp.{stamp_micros};
 ghost use Rattle.j39_transport.specs.ReceiverModel.{message_shown};
 
 use j39_address::Name;
-use j39_frame::{Pgn, Stamp};
+use j39_frame::{GLOBAL_ADDRESS, Pgn, Stamp};
 use j39_transport::Message;
 use std::alloc::{AllocError, Global};
 
@@ -49,8 +49,8 @@ pub struct Handed {
     /// The NAME of the controller, and the address that it held.
     pub name: Name,
     pub address: u8,
-    /// Where it goes; `None` for all.
-    pub to: Option<u8>,
+    /// Where it goes: 255 for all.
+    pub to: u8,
     pub pgn: Pgn,
     pub payload: Vec<u8>,
     pub fate: Fate,
@@ -61,7 +61,7 @@ pub struct Handed {
 fn is_of(handed: &Handed, delivered: &Message<'_>) -> bool
     ensures { IsTrue result ↔ IsOf (message_shown delivered.now) handed.now }
 {
-    handed.to.is_some()
+    handed.to != GLOBAL_ADDRESS
         && handed.address == delivered.source
         && handed.pgn == delivered.pgn
         && handed.payload.as_slice() == delivered.payload
@@ -183,6 +183,15 @@ impl Book {
         ensures done { self.new.done ≡ self.old.done }
     {
         self.note_whole(message);
+        self.receive(message)
+    }
+
+    /// Notes what a receiver delivered, and nothing of who sent it.
+    pub fn receive(&mut self, message: &Message<'_>) -> Result<(), AllocError>
+        ensures last { OnOk result (delivered_in self.new ≡ delivered_in self.old ++ (stamp_micros message.now.stamp, message_shown message.now) ∷ []) }
+        ensures kept { OnErr result (self.new.deliveries.items ≡ self.old.deliveries.items) }
+        ensures rest { self.new ≡ record self.old { deliveries = self.new.deliveries } }
+    {
         self.deliveries.push(Delivery {
             stamp: message.stamp,
             source: message.source,

@@ -2,12 +2,12 @@
 //!
 //! The engine takes address 00, and loses it to its rival a second after the start. The gearbox is at 03, the tool at F9.
 ghost use Rattle.std.specs.Prelude.{◌≡◌, IfOk};
-ghost use Rattle.bus_demo.specs.Scenario.{PlaysAll};
+ghost use Rattle.bus_demo.specs.Scenario.{PlaysAll, member, member_of};
 
-use crate::bus::gauges::{Gauges, Group};
 use crate::bus::player::Player;
-use crate::bus::role::{Plan, Rate, Role};
-use crate::bus::scenario::{COMMAND, COMMANDED_ADDRESS, TOOL, join};
+use crate::bus::role::{Plan, Role, rates};
+use crate::bus::scenario::{COMMAND, COMMANDED_ADDRESS, TOOL, play};
+use j39_frame::GLOBAL_ADDRESS;
 use std::alloc::{AllocError, Global};
 
 /// What is lost, or what is sent for a loss.
@@ -54,21 +54,21 @@ const NONE: &[Plan] = &[];
 
 const LONG_TO_ALL: &[Plan] = &[Plan {
     at: 700_000,
-    to: None,
+    to: GLOBAL_ADDRESS,
     pgn: SOFTWARE,
     payload: LONG,
 }];
 
 const LONG_TO_TOOL: &[Plan] = &[Plan {
     at: 950_000,
-    to: Some(TOOL),
+    to: TOOL,
     pgn: SOFTWARE,
     payload: LONGEST,
 }];
 
 const LONG_TO_ENGINE: &[Plan] = &[Plan {
     at: 950_000,
-    to: Some(ENGINE),
+    to: ENGINE,
     pgn: SOFTWARE,
     payload: LONGEST,
 }];
@@ -76,13 +76,13 @@ const LONG_TO_ENGINE: &[Plan] = &[Plan {
 const TWO_TO_GEARBOX: &[Plan] = &[
     Plan {
         at: 500_000,
-        to: Some(GEARBOX),
+        to: GEARBOX,
         pgn: SOFTWARE,
         payload: LONG,
     },
     Plan {
         at: 500_000,
-        to: Some(GEARBOX),
+        to: GEARBOX,
         pgn: SOFTWARE,
         payload: SHORT,
     },
@@ -90,30 +90,22 @@ const TWO_TO_GEARBOX: &[Plan] = &[
 
 const COMMAND_TO_GEARBOX: &[Plan] = &[Plan {
     at: 500_000,
-    to: Some(GEARBOX),
+    to: GEARBOX,
     pgn: COMMANDED_ADDRESS,
     payload: COMMAND,
 }];
 
 fn role(name: u64, preferred: u8, starts: u64, plans: &'static [Plan]) -> Role
-    ensures { (result.name ≡ name) × (result.preferred ≡ preferred) × (result.starts ≡ starts) }
+    ensures { (member_of result ≡ member name preferred) × (result.starts ≡ starts) }
 {
-    let rate = |group: Group| Rate {
-        group,
-        period: 1_000_000,
-        due: 0,
-    };
     Role {
-        name,
-        preferred,
-        starts,
-        rates: [
-            rate(Group::Engine),
-            rate(Group::Temperatures),
-            rate(Group::Distance),
-        ],
         plans,
-        faults: &[],
+        ..Role::new(
+            name,
+            preferred,
+            starts,
+            rates(1_000_000, 1_000_000, 1_000_000),
+        )
     }
 }
 
@@ -144,10 +136,5 @@ fn four(
     let rival = role(0x8000_0000_0140_1002, ENGINE, 1_000_000, NONE);
     let gearbox = role(0x8000_0000_0240_1003, GEARBOX, 0, NONE);
     let tool = role(0x8000_0000_0440_1004, TOOL, 0, tool);
-    let mut players = Vec::new(alloc);
-    join(&mut players, alloc, &engine, Gauges::new(seed, 0))?;
-    join(&mut players, alloc, &rival, Gauges::new(seed, 1))?;
-    join(&mut players, alloc, &gearbox, Gauges::new(seed, 2))?;
-    join(&mut players, alloc, &tool, Gauges::new(seed, 3))?;
-    Ok(players)
+    play(alloc, seed, &[engine, rival, gearbox, tool])
 }

@@ -12,7 +12,7 @@ ghost use Rattle.bus_demo.specs.Fates.{IsOf};
 ghost use Rattle.bus_demo.specs.Moving.{Moves};
 ghost use Rattle.bus_demo.specs.Playing.{IsHeard, IsHeardNoted, IsTurned, controller_of, target};
 ghost use Rattle.bus_demo.specs.Publishing.{AreDueAgain};
-ghost use Rattle.bus_demo.specs.Scenario.{IsPlayed};
+ghost use Rattle.bus_demo.specs.Scenario.{IsPlayed, member_of};
 ghost use Rattle.bus_demo.specs.Turning.{IsWish};
 
 use crate::bus::book::Book;
@@ -31,6 +31,8 @@ const TURN: u64 = 10_000;
 #[derive(Drop)]
 pub struct Player {
     name: Name,
+    /// The book has each broadcast in packets that it receives.
+    is_display: bool,
     station: Station,
     publisher: Publisher,
     /// When its loop turns first, and next. Before, it hears the bus, and sends nothing.
@@ -44,19 +46,19 @@ impl Player {
     /// One that has claimed no address yet; `None` for a preferred address above 253.
     pub fn new(alloc: Global, role: &Role, mut gauges: Gauges) -> Result<Option<Player>, AllocError>
         ensures known { IfOk result (λ found. IsSome found ↔ IsAddress role.now.preferred) }
-        ensures fresh { IfOk result (λ found. IfSome found (IsPlayed role.now.name role.now.preferred)) }
+        ensures fresh { IfOk result (λ found. IfSome found (IsPlayed (member_of role.now))) }
 
         // Its loop turns first within 10 ms of its start.
         ensures due { IfOk result (λ found. IfSome found (λ player. role.now.starts + 10000 < 2 ^ 64
             → (role.now.starts ≤ player.due) × (player.due < role.now.starts + 10000))) }
     {
         let starts = role.starts.saturating_add(u64::from(gauges.below(10_000)));
-        let name = Name::new(role.name);
-        let Some(station) = Station::new(alloc, name, role.preferred)? else {
+        let Some(station) = Station::new(alloc, role)? else {
             return Ok(None);
         };
         Ok(Some(Player {
-            name,
+            name: Name::new(role.name),
+            is_display: role.is_display,
             station,
             publisher: Publisher::new(alloc, role, gauges),
             starts,
@@ -145,7 +147,7 @@ impl Player {
         ensures count { length book.new.handed.items ≡ length book.old.handed.items }
         ensures rest { self.new ≡ record self.old { station = self.new.station; commanded = self.new.commanded } }
     {
-        self.station.hear(frame, book)?;
+        self.station.hear(frame, self.is_display, book)?;
         let command = self.station.command(self.name);
         self.commanded = target(command, self.commanded);
         self.move_on();

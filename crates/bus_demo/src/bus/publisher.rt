@@ -10,9 +10,10 @@ use crate::bus::book::{Book, Fate, Handed};
 use crate::bus::diagnostics::Diagnostics;
 use crate::bus::gauges::{Gauges, Group};
 use crate::bus::role::{Plan, Rate, Role};
-use crate::bus::station::{Draft, Station};
+use crate::bus::station::Station;
 use j39_address::Name;
-use j39_frame::{Pgn, Stamp};
+use j39_application::Outgoing;
+use j39_frame::{GLOBAL_ADDRESS, Pgn, Stamp};
 use std::alloc::{AllocError, Global};
 
 /// The priority of a planned message of one frame, and of one of faults.
@@ -119,13 +120,13 @@ impl Publisher {
         let Some(payload) = self.gauges.payload(group) else {
             return Ok(());
         };
-        let draft = Draft {
+        let message = Outgoing {
             priority: group.priority(),
-            pgn: group.pgn(),
-            to: None,
-            payload: &payload,
+            group: group.pgn(),
+            to: GLOBAL_ADDRESS,
+            bytes: &payload,
         };
-        self.hand_in(&draft, address, now, station, book)?;
+        self.hand_in(&message, address, now, station, book)?;
         Ok(())
     }
 
@@ -149,7 +150,7 @@ impl Publisher {
     /// Hands in a message, and notes it where it is accepted: whether it was.
     fn hand_in(
         &self,
-        draft: &Draft<'_>,
+        message: &Outgoing<'_>,
         address: u8,
         now: Stamp,
         station: &mut Station,
@@ -159,15 +160,15 @@ impl Publisher {
         ensures calls { Calls (is_handing (stamp_micros now)) station.old.controller station.new.controller }
     {
         let number = book.handed().len();
-        if !station.hand_in(draft, number, now) {
+        if !station.hand_in(message, number, now) {
             return Ok(false);
         }
         book.hand_in(Handed {
             name: self.name,
             address,
-            to: draft.to,
-            pgn: draft.pgn,
-            payload: Vec::from_slice(self.alloc, draft.payload)?,
+            to: message.to,
+            pgn: message.group,
+            payload: Vec::from_slice(self.alloc, message.bytes)?,
             fate: Fate::Open,
         })?;
         Ok(true)
@@ -192,17 +193,17 @@ impl Publisher {
         if !self.diagnostics.are_due(now.micros()) {
             return Ok(());
         }
-        let message = self.diagnostics.message(self.alloc, now.micros())?;
-        let Some((pgn, message)) = Pgn::new(ACTIVE_FAULTS).zip(message) else {
+        let faults = self.diagnostics.message(self.alloc, now.micros())?;
+        let Some((group, faults)) = Pgn::new(ACTIVE_FAULTS).zip(faults) else {
             return Ok(());
         };
-        let draft = Draft {
+        let message = Outgoing {
             priority: SLOW,
-            pgn,
-            to: None,
-            payload: message.as_slice(),
+            group,
+            to: GLOBAL_ADDRESS,
+            bytes: faults.as_slice(),
         };
-        if self.hand_in(&draft, address, now, station, book)? {
+        if self.hand_in(&message, address, now, station, book)? {
             self.diagnostics.note(now.micros());
         }
         Ok(())
@@ -229,16 +230,16 @@ impl Publisher {
         if now.micros() < plan.at {
             return Ok(());
         }
-        let Some(pgn) = Pgn::new(plan.pgn) else {
+        let Some(group) = Pgn::new(plan.pgn) else {
             return Ok(());
         };
-        let draft = Draft {
+        let message = Outgoing {
             priority: SLOW,
-            pgn,
+            group,
             to: plan.to,
-            payload: plan.payload,
+            bytes: plan.payload,
         };
-        if self.hand_in(&draft, address, now, station, book)? {
+        if self.hand_in(&message, address, now, station, book)? {
             self.plans = rest;
         }
         Ok(())

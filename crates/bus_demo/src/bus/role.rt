@@ -1,4 +1,7 @@
 //! What a controller is told to do.
+ghost use Rattle.std.specs.Prelude.{◌≡◌};
+ghost use Rattle.bus_demo.specs.Scenario.{member, member_of};
+
 use crate::bus::diagnostics::Fault;
 use crate::bus::gauges::Group;
 
@@ -11,12 +14,12 @@ pub struct Rate {
 }
 
 /// A message that is to be sent at a moment, in microseconds, or as soon after it as the controller is free
-/// to: in packets from 9 bytes on, and else in one frame to all.
+/// to: in packets from 9 bytes on, and else in one frame.
 #[derive(Clone, Copy)]
 pub struct Plan {
     pub at: u64,
-    /// The address that it goes to in packets; `None` for all.
-    pub to: Option<u8>,
+    /// 255 for all, else the address that it goes to.
+    pub to: u8,
     pub pgn: u32,
     pub payload: &'static [u8],
 }
@@ -32,4 +35,40 @@ pub struct Role {
     pub plans: &'static [Plan],
     /// The faults that it has and tells by DM1; one with none here sends no DM1.
     pub faults: &'static [Fault],
+    /// How many broadcasts in packets it hears at once.
+    pub broadcasts: u8,
+    /// It is a display: the book has each broadcast in packets that it receives.
+    pub is_display: bool,
+}
+
+impl Role {
+    /// One that only measures, and hears eight broadcasts at once.
+    pub fn new(name: u64, preferred: u8, starts: u64, rates: [Rate; 3]) -> Role
+        ensures { (member_of result ≡ member name preferred) × (result.starts ≡ starts) }
+    {
+        Role {
+            name,
+            preferred,
+            starts,
+            rates,
+            plans: &[],
+            faults: &[],
+            broadcasts: 8,
+            is_display: false,
+        }
+    }
+}
+
+/// The rates of the three groups, by their periods in microseconds.
+pub fn rates(engine: u64, temperatures: u64, distance: u64) -> [Rate; 3] {
+    let rate = |group: Group, period: u64| Rate {
+        group,
+        period,
+        due: 0,
+    };
+    [
+        rate(Group::Engine, engine),
+        rate(Group::Temperatures, temperatures),
+        rate(Group::Distance, distance),
+    ]
 }

@@ -5,16 +5,17 @@
 //! speed, temperatures and distance. The engine broadcasts its vehicle's identification (VI), and the
 //! rival sends its component's (CI) to the tool. The engine says each second, and at a change, which of its
 //! fault codes are active (DM1): first none, then one, then three, then none.
-ghost use Rattle.std.specs.Prelude.{◌≡◌, ◌∷◌, ◌++◌, [], IfOk, OnOk};
+ghost use Rattle.std.specs.Prelude.{◌≡◌, ◌∷◌, ◌++◌, [], IfOk, OnOk, map};
 ghost use Rattle.j39_frame.specs.Address.{IsAddress};
-ghost use Rattle.bus_demo.specs.Scenario.{IsPlayed, PlaysAll};
+ghost use Rattle.bus_demo.specs.Scenario.{ArePlayed, HaveAddresses, IsPlayed, PlaysAll, member, member_of};
 ghost use Rattle.bus_demo.specs.declared.bus.player.Player.{Player};
 
 use crate::bus::diagnostics::Fault;
-use crate::bus::gauges::{Gauges, Group};
+use crate::bus::gauges::Gauges;
 use crate::bus::player::Player;
-use crate::bus::role::{Plan, Rate, Role};
+use crate::bus::role::{Plan, Role, rates};
 use j39_faults::{Code, Parameter};
+use j39_frame::GLOBAL_ADDRESS;
 use std::alloc::{AllocError, Global};
 
 /// The vehicle identification number, with the `*` that ends it.
@@ -76,14 +77,14 @@ static ENGINE_FAULTS: [Fault; 3] = [
 
 static ENGINE_PLANS: [Plan; 1] = [Plan {
     at: 1_600_000,
-    to: None,
+    to: GLOBAL_ADDRESS,
     pgn: VEHICLE_IDENTIFICATION,
     payload: VIN,
 }];
 
 static RIVAL_PLANS: [Plan; 1] = [Plan {
     at: 1_700_000,
-    to: Some(TOOL),
+    to: TOOL,
     pgn: COMPONENT_IDENTIFICATION,
     payload: COMPONENT,
 }];
@@ -91,7 +92,7 @@ static RIVAL_PLANS: [Plan; 1] = [Plan {
 /// The tool commands the gearbox to move.
 const MOVE: Plan = Plan {
     at: 2_200_000,
-    to: None,
+    to: GLOBAL_ADDRESS,
     pgn: COMMANDED_ADDRESS,
     payload: COMMAND,
 };
@@ -103,104 +104,97 @@ static ASKING_TOOL_PLANS: [Plan; 2] = [
     MOVE,
     Plan {
         at: 2_500_000,
-        to: Some(0x00),
+        to: 0x00,
         pgn: REQUEST,
         payload: &[0xEC, 0xFE, 0x00],
     },
 ];
 
-/// The rates of the three groups, in microseconds.
-fn rates(engine: u64, temperatures: u64, distance: u64) -> [Rate; 3] {
-    let rate = |group: Group, period: u64| Rate {
-        group,
-        period,
-        due: 0,
-    };
-    [
-        rate(Group::Engine, engine),
-        rate(Group::Temperatures, temperatures),
-        rate(Group::Distance, distance),
-    ]
-}
-
 fn engine() -> Role
-    ensures { (result.name ≡ 0x8000000003401001) × (result.preferred ≡ 0) × (result.starts ≡ 0) }
+    ensures { (member_of result ≡ member 0x8000000003401001 0) × (result.starts ≡ 0) }
 {
     Role {
-        name: 0x8000_0000_0340_1001,
-        preferred: 0x00,
-        starts: 0,
-        rates: rates(100_000, 500_000, 1_000_000),
         plans: &ENGINE_PLANS,
         faults: &ENGINE_FAULTS,
+        ..Role::new(
+            0x8000_0000_0340_1001,
+            0x00,
+            0,
+            rates(100_000, 500_000, 1_000_000),
+        )
     }
 }
 
 fn rival() -> Role
-    ensures { (result.name ≡ 0x8000000001401002) × (result.preferred ≡ 0) × (result.starts ≡ 1000000) }
+    ensures { (member_of result ≡ member 0x8000000001401002 0) × (result.starts ≡ 1000000) }
 {
     Role {
-        name: 0x8000_0000_0140_1002,
-        preferred: 0x00,
-        starts: 1_000_000,
-        rates: rates(100_000, 1_000_000, 1_000_000),
         plans: &RIVAL_PLANS,
-        faults: &[],
+        ..Role::new(
+            0x8000_0000_0140_1002,
+            0x00,
+            1_000_000,
+            rates(100_000, 1_000_000, 1_000_000),
+        )
     }
 }
 
 fn gearbox() -> Role
-    ensures { (result.name ≡ 0x8000000002401003) × (result.preferred ≡ 3) × (result.starts ≡ 20000) }
+    ensures { (member_of result ≡ member 0x8000000002401003 3) × (result.starts ≡ 20000) }
 {
-    Role {
-        name: 0x8000_0000_0240_1003,
-        preferred: 0x03,
-        starts: 20_000,
-        rates: rates(200_000, 1_000_000, 1_000_000),
-        plans: &[],
-        faults: &[],
-    }
+    Role::new(
+        0x8000_0000_0240_1003,
+        0x03,
+        20_000,
+        rates(200_000, 1_000_000, 1_000_000),
+    )
 }
 
 fn tool(asks: bool) -> Role
-    ensures { (result.name ≡ 0x8000000004401004) × (result.preferred ≡ 0xF9) × (result.starts ≡ 100000) }
+    ensures { (member_of result ≡ member 0x8000000004401004 0xF9) × (result.starts ≡ 100000) }
 {
     Role {
-        name: 0x8000_0000_0440_1004,
-        preferred: TOOL,
-        starts: 100_000,
-        rates: rates(500_000, 1_000_000, 1_000_000),
         plans: if asks {
             &ASKING_TOOL_PLANS
         } else {
             &TOOL_PLANS
         },
-        faults: &[],
+        ..Role::new(
+            0x8000_0000_0440_1004,
+            TOOL,
+            100_000,
+            rates(500_000, 1_000_000, 1_000_000),
+        )
     }
 }
 
-/// The four controllers. The seed decides when in a time of 10 ms each one's loop turns, and what its
-/// gauges show. Where another is outside, the tool asks it.
+/// The four controllers. Where another is outside, the tool asks it.
 pub fn controllers(alloc: Global, seed: u64, outside: bool) -> Result<Vec<Player>, AllocError>
     ensures { IfOk result (λ players. PlaysAll players.items) }
 {
+    play(alloc, seed, &[engine(), rival(), gearbox(), tool(outside)])
+}
+
+/// The controllers of these roles, in their order. The seed decides when in a time of 10 ms each one's loop turns, and what its
+/// gauges show.
+pub(super) fn play(alloc: Global, seed: u64, roles: &[Role]) -> Result<Vec<Player>, AllocError>
+    ensures { IfOk result (λ players. HaveAddresses (map member_of roles.now) → ArePlayed (map member_of roles.now) players.items) }
+{
     let mut players = Vec::new(alloc);
-    join(&mut players, alloc, &engine(), Gauges::new(seed, 0))?;
-    join(&mut players, alloc, &rival(), Gauges::new(seed, 1))?;
-    join(&mut players, alloc, &gearbox(), Gauges::new(seed, 2))?;
-    join(&mut players, alloc, &tool(outside), Gauges::new(seed, 3))?;
+    for (place, role) in roles.iter().enumerate() {
+        join(&mut players, alloc, role, Gauges::new(seed, place as u64))?;
+    }
     Ok(players)
 }
 
 /// Puts the controller of a role behind the others.
-pub(super) fn join(
+fn join(
     players: &mut Vec<Player>,
     alloc: Global,
     role: &Role,
     gauges: Gauges,
 ) -> Result<(), AllocError>
-    ensures { OnOk result (IsAddress role.now.preferred → (player : Player)
-        × IsPlayed role.now.name role.now.preferred player
+    ensures { OnOk result (IsAddress role.now.preferred → (player : Player) × IsPlayed (member_of role.now) player
         × (players.new.items ≡ players.old.items ++ player ∷ [])) }
 {
     let found = Player::new(alloc, role, gauges)?;

@@ -5,7 +5,8 @@ ghost use Rattle.j39_transfers.specs.declared.kinds.Ending.{Ending as TransferEn
 ghost use Rattle.j39_frame.specs.Address.{IsAddress};
 ghost use Rattle.j39_frame.specs.Stamp.{stamp_micros};
 ghost use Rattle.j39_address.specs.Name.{name_raw};
-ghost use Rattle.j39_node.specs.History.{Who, Call, nothing};
+ghost use Rattle.j39_node.specs.History.{Who, Call};
+ghost use Rattle.j39_application.specs.Sending.{draft_of};
 ghost use Rattle.j39_node.specs.History.Call.{ReleaseTransfer, TakeTransferEnded};
 ghost use Rattle.j39_node.specs.Hearing.{waiting};
 ghost use Rattle.j39_node.specs.Is.{Is, next_frame, stamped};
@@ -13,28 +14,20 @@ ghost use Rattle.j39_node.specs.Moving.{IsSettled};
 ghost use Rattle.j39_node.specs.Reception.{reception};
 ghost use Rattle.j39_node.specs.Ticks.{next_tick};
 ghost use Rattle.j39_node.specs.Transfers.{next_transfer_ended};
-ghost use Rattle.bus_demo.specs.Calls.{Calls, Continues, Heard, Takes, Ticked, command_to, held_after, is_handing, is_taking};
+ghost use Rattle.bus_demo.specs.Calls.{Calls, Continues, HandsIn, Heard, Takes, Ticked, command_to, held_after, is_handing, is_taking};
 ghost use Rattle.bus_demo.specs.Moving.{MovesIfLost, MovesTo};
-ghost use Rattle.bus_demo.specs.Noted.{IsNoted, delivered_in, done_by, listed};
+ghost use Rattle.bus_demo.specs.Noted.{IsNoted, delivered_in, done_by, listed, shown_to};
 ghost use Rattle.bus_demo.specs.Fates.{IsOf};
+ghost use Rattle.bus_demo.specs.Scenario.{member_of, who_is};
 
 use crate::bus::book::{Book, Fate, MessageFrame};
+use crate::bus::role::Role;
 use arrayvec::ArrayVec;
 use j39_address::{Name, Status, commanded_of};
-use j39_frame::{Frame, GLOBAL_ADDRESS, Pgn, Stamp};
-use j39_node::{Controller, Refused, Setup, TransferEnding};
+use j39_application::{End, Outgoing, Way, send, take_ended};
+use j39_frame::{Frame, GLOBAL_ADDRESS, Stamp};
+use j39_node::{Controller, Setup, TransferEnding};
 use std::alloc::{AllocError, Global};
-
-/// A message that is to be sent.
-#[derive(Drop)]
-pub struct Draft<'a> {
-    /// The priority of a message of one frame, from 0 (first) to 7; packets have 7.
-    pub priority: u8,
-    pub pgn: Pgn,
-    /// The address that it goes to in packets; `None` for all.
-    pub to: Option<u8>,
-    pub payload: &'a [u8],
-}
 
 /// A frame that is sent, and the message of which it is one.
 #[derive(Drop)]
@@ -42,9 +35,6 @@ pub struct Sent {
     pub frame: Frame,
     pub part: Option<MessageFrame>,
 }
-
-/// How many broadcasts in packets a controller here hears at once.
-const BROADCASTS: u8 = 8;
 
 /// How many messages in packets it receives at once.
 const SESSIONS: u8 = 4;
@@ -67,18 +57,17 @@ pub struct Station {
 
 impl Station {
     /// One that has claimed no address yet; `None` for an address above 253.
-    pub fn new(alloc: Global, name: Name, address: u8) -> Result<Option<Station>, AllocError>
-        ensures known { IfOk result (λ found. IsSome found ↔ IsAddress address) }
-        ensures fresh { IfOk result (λ found. IfSome found (λ station. Is (record
-            { name = name_raw name; address = address; delay = 0; served = []; subscribed = None; boxes = 8; sessions = 4; transfers = 1; window = 16; brought = nothing }) [] station.controller)) }
+    pub fn new(alloc: Global, role: &Role) -> Result<Option<Station>, AllocError>
+        ensures known { IfOk result (λ found. IsSome found ↔ IsAddress role.now.preferred) }
+        ensures fresh { IfOk result (λ found. IfSome found (λ station. Is (who_is (member_of role.now)) [] station.controller)) }
     {
         let setup = Setup {
-            name,
-            address,
+            name: Name::new(role.name),
+            address: role.preferred,
             delay: 0,
             served: &[],
             subscribed: None,
-            broadcasts: BROADCASTS,
+            broadcasts: role.broadcasts,
             sessions: SESSIONS,
             transfers: TRANSFERS,
             window: WINDOW,
@@ -188,45 +177,28 @@ impl Station {
     }
 
     /// Hands in a message, which has this number in the book: whether it was accepted.
-    pub fn hand_in(&mut self, draft: &Draft<'_>, number: usize, now: Stamp) -> bool
-        ensures { Calls (is_handing (stamp_micros now)) self.old.controller self.new.controller }
+    pub fn hand_in(&mut self, message: &Outgoing<'_>, number: usize, now: Stamp) -> bool
+        ensures goes { HandsIn (stamp_micros now) (draft_of message.now) result self.old.controller self.new.controller }
+        ensures calls { Calls (is_handing (stamp_micros now)) self.old.controller self.new.controller }
     {
-        if draft.payload.len() <= 8 {
-            self.send(draft, number, now)
-        } else {
-            match draft.to {
-                Some(to) => self.transfer(draft, to, number, now),
-                None => self.broadcast(draft, number, now),
+        match send(&mut self.controller, now, message) {
+            Ok(token) => {
+                self.number(token.way, number);
+                true
             }
+            Err(_refused) => false,
         }
     }
 
-    fn send(&mut self, draft: &Draft<'_>, number: usize, now: Stamp) -> bool
-        ensures { Calls (is_handing (stamp_micros now)) self.old.controller self.new.controller }
+    /// What was accepted to go this way has this number. Of one frame no more are kept than a controller accepts.
+    fn number(&mut self, way: Way, number: usize)
+        ensures { self.new.controller ≡ self.old.controller }
     {
-        let to = draft.to.unwrap_or(GLOBAL_ADDRESS);
-        let answer = self
-            .controller
-            .send(now, draft.priority, draft.pgn, to, draft.payload);
-        answer.is_ok() && self.singles.try_push(number).is_ok()
-    }
-
-    fn broadcast(&mut self, draft: &Draft<'_>, number: usize, now: Stamp) -> bool
-        ensures { Calls (is_handing (stamp_micros now)) self.old.controller self.new.controller }
-    {
-        let answer = self.controller.broadcast(now, draft.pgn, draft.payload);
-        self.broadcast = numbered(&answer, number, self.broadcast);
-        answer.is_ok()
-    }
-
-    fn transfer(&mut self, draft: &Draft<'_>, to: u8, number: usize, now: Stamp) -> bool
-        ensures { Calls (is_handing (stamp_micros now)) self.old.controller self.new.controller }
-    {
-        let answer = self
-            .controller
-            .transfer(now, 7, draft.pgn, to, draft.payload);
-        self.transfer = numbered(&answer, number, self.transfer);
-        answer.is_ok()
+        match way {
+            Way::Frame => self.singles.try_push(number).unwrap_or(()),
+            Way::Broadcast => self.broadcast = Some(number),
+            Way::Transfer => self.transfer = Some(number),
+        }
     }
 
     /// Lets time pass, and notes how messages ended.
@@ -241,13 +213,19 @@ impl Station {
     }
 
     /// Hears a frame of another controller, and notes what was received, and how messages ended.
-    pub fn hear(&mut self, frame: &Frame, book: &mut Book) -> Result<(), AllocError>
+    pub fn hear(
+        &mut self,
+        frame: &Frame,
+        is_display: bool,
+        book: &mut Book,
+    ) -> Result<(), AllocError>
         ensures hears { OnOk result (Heard frame.now self.old.controller self.new.controller) }
         ensures noted { OnOk result ((w : Who) (H : List Call) → Is w H self.old.controller
-            → IsNoted w H frame.now self.old.transfer book.old book.new) }
+            → IsNoted w H frame.now is_display self.old.transfer book.old book.new) }
         ensures count { length book.new.handed.items ≡ length book.old.handed.items }
     {
         self.controller.hear(frame, frame.stamp);
+        self.show(is_display, book)?;
         self.settle(book)?;
         self.deliver(book)?;
         self.withdraw(book);
@@ -322,6 +300,21 @@ impl Station {
         Ok(())
     }
 
+    /// Notes the message in packets that came to all, where it is a display.
+    fn show(&self, is_display: bool, book: &mut Book) -> Result<(), AllocError>
+        ensures shown { OnOk result ((w : Who) (H : List Call) → Is w H self.now.controller
+            → delivered_in book.new ≡ delivered_in book.old ++ shown_to is_display (slice_get (waiting w H) 0)) }
+        ensures rest { book.new ≡ record book.old { deliveries = book.new.deliveries } }
+    {
+        if !is_display {
+            return Ok(());
+        }
+        match self.controller.received_broadcast() {
+            Some(message) => book.receive(&message),
+            None => Ok(()),
+        }
+    }
+
     /// Notes the message in packets that came to its address.
     fn deliver(&mut self, book: &mut Book) -> Result<(), AllocError>
         ensures delivered { OnOk result ((w : Who) (H : List Call) → Is w H self.old.controller
@@ -338,45 +331,35 @@ impl Station {
         Ok(())
     }
 
-    /// Notes the messages to all that won't go, since the address is lost.
+    /// Notes the messages to all that won't go, since the address is lost: sixteen of one frame at most, and a broadcast.
     fn withdraw(&mut self, book: &mut Book)
         ensures calls { Calls is_taking self.old.controller self.new.controller }
-        ensures deliveries { book.new.deliveries ≡ book.old.deliveries }
-        ensures done { book.new.done ≡ book.old.done }
+        ensures fates { book.new ≡ record book.old { handed = book.new.handed } }
         ensures count { length book.new.handed.items ≡ length book.old.handed.items }
     {
-        for _message in 0..16 {
-            self.withdraw_single(book);
+        for _message in 0..17 {
+            self.withdraw_next(book);
         }
-        self.withdraw_broadcast(book);
     }
 
-    fn withdraw_single(&mut self, book: &mut Book)
+    fn withdraw_next(&mut self, book: &mut Book)
         ensures calls { Calls is_taking self.old.controller self.new.controller }
-        ensures deliveries { book.new.deliveries ≡ book.old.deliveries }
-        ensures done { book.new.done ≡ book.old.done }
+        ensures fates { book.new ≡ record book.old { handed = book.new.handed } }
         ensures count { length book.new.handed.items ≡ length book.old.handed.items }
     {
-        if self.controller.take_ended().is_none() {
-            return;
-        }
-        if let Some(number) = self.first_single() {
+        if let Some(number) = self.withdrawn() {
             book.settle(number, Fate::Withdrawn);
         }
     }
 
-    fn withdraw_broadcast(&mut self, book: &mut Book)
-        ensures calls { Calls is_taking self.old.controller self.new.controller }
-        ensures deliveries { book.new.deliveries ≡ book.old.deliveries }
-        ensures done { book.new.done ≡ book.old.done }
-        ensures count { length book.new.handed.items ≡ length book.old.handed.items }
+    /// The number of the next one. Of a transfer the end was noted before.
+    fn withdrawn(&mut self) -> Option<usize>
+        ensures { Calls is_taking self.old.controller self.new.controller }
     {
-        if self.controller.take_broadcast_ended().is_none() {
-            return;
-        }
-        if let Some(number) = self.broadcast {
-            self.broadcast = None;
-            book.settle(number, Fate::Withdrawn);
+        match take_ended(&mut self.controller) {
+            Some((_token, End::Frame(_))) => self.first_single(),
+            Some((_token, End::Broadcast(_))) => self.broadcast.take(),
+            _ => None,
         }
     }
 
@@ -391,11 +374,6 @@ impl Station {
         self.controller.take_news();
         self.controller.take_news();
     }
-}
-
-/// The number of what was accepted, or else that of before.
-fn numbered(answer: &Result<u64, Refused>, number: usize, before: Option<usize>) -> Option<usize> {
-    if answer.is_ok() { Some(number) } else { before }
 }
 
 /// Whether it is a frame of a message in packets to all.

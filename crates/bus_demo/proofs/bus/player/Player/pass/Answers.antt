@@ -16,6 +16,11 @@ returns-clause-turns c =
     let new = c.publish.new.self in
     let rest = c.publish.ensures.rest in
     on_ok c.publish.result _ _ (λ measures due. record {
+      own = (
+        ap (λ (p : Player). p.name) rest ∙ ap (λ (p : Player). p.name) c.move_on.ensures.rest,
+        ap (λ (p : Player). p.is_display) rest ∙ ap (λ (p : Player). p.is_display) c.move_on.ensures.rest,
+        ap (λ (p : Player). p.starts) rest ∙ ap (λ (p : Player). p.starts) c.move_on.ensures.rest,
+      );
       due = ap (λ (p : Player). p.due) rest ∙ (ap (λ (p : Player). p.due) c.move_on.ensures.rest ∙ search rules);
       ticked = c.tick.new.self.controller;
       ticks = c.in_ok-tick.ensures.ticks;

@@ -6,8 +6,9 @@ use Rattle.j39_node.specs.Is.{Is}
 use Rattle.j39_node.specs.History.Call.{At, ReleaseTransfer, TakeTransferEnded}
 use Rattle.j39_node.specs.History.Act.{Hear}
 use Rattle.j39_node.specs.Reception.{reception}
+use Rattle.j39_node.specs.Transfers.{next_transfer_ended}
 use Rattle.bus_demo.specs.Calls.{is_taking}
-use Rattle.bus_demo.specs.Noted.{listed, told_by}
+use Rattle.bus_demo.specs.Noted.{delivered_in, done_by, listed, told_by}
 use Rattle.bus_demo.proofs.CallLemmas.{calls_one, calls_then}
 use Rattle.bus_demo.proofs.bus.station.Station.hear.Goals as goal
 
@@ -36,9 +37,13 @@ returns-clause-noted c = λ w H is.
     let heard = subst (λ (t : ℕ). Is w (At t (Hear c.args.frame.now) ∷ H) c.hear.new.self) at (c.hear.ensures w H is) in
     let ended = c.settle.ensures.calls in
     let settled = ended.1 w K heard in
+    let came = listed (slice_get (reception w K).waits 0) in
     record {
-      delivered = ap (λ v. map told_by v.items) c.withdraw.ensures.deliveries
+      delivered = ap delivered_in c.withdraw.ensures.fates
           ∙ (c.in_ok-deliver.ensures.delivered w (TakeTransferEnded ended.0 ∷ K) settled
-          ∙ ap (λ v. map told_by v.items ++ listed (slice_get (reception w K).waits 0)) c.settle.ensures.deliveries);
-      done = ap (λ v. v.items) (c.withdraw.ensures.done ∙ c.deliver.ensures.done) ∙ c.in_ok-settle.ensures.done w K heard;
+          ∙ (ap (λ v. map told_by v.items ++ came) c.settle.ensures.deliveries
+          ∙ ap (λ ds. ds ++ came) (c.in_ok-show.ensures.shown w K heard)));
+      done = ap (λ b. b.done.items) c.withdraw.ensures.fates ∙ (ap (λ v. v.items) c.deliver.ensures.done
+          ∙ (c.in_ok-settle.ensures.done w K heard
+          ∙ ap (λ b. b.done.items ++ done_by (next_transfer_ended w K) c.args.self.now.transfer) c.show.ensures.rest));
     }

@@ -5,6 +5,5 @@ use Rattle.bus_demo.proofs.bus.station.Station.withdraw.Given as goal
 -- calls took what there was, and nothing was noted but fates
 abbrev pub invariant-loop-message : goal.invariant-loop-message
 invariant-loop-message l = Calls is_taking l.initial.self.controller l.self.controller
-    × (l.book.deliveries ≡ l.initial.book.deliveries)
-    × (l.book.done ≡ l.initial.book.done)
+    × (l.book ≡ record l.initial.book { handed = l.book.handed })
     × (length l.book.handed.items ≡ length l.initial.book.handed.items)
