@@ -22,6 +22,7 @@ static j1939_assembler assembler = J1939_EMPTY;
 static j1939_receiver receiver = J1939_EMPTY;
 static j1939_sender sender = J1939_EMPTY;
 static j1939_controller controller = J1939_EMPTY;
+static j1939_answers answers = J1939_EMPTY;
 static j1939_node node;
 static j1939_frame out;
 static const j1939_frame engine = {
@@ -153,6 +154,32 @@ static void measure(const char *name, void (*call)(void), long times) {
     putchar('\n');
 }
 
+/* How much memory answers with so many boxes take. */
+static unsigned answers_of(uint8_t boxes) {
+    size_t before = taken;
+    EXPECT(j1939_answers_new(&answers, boxes) == 0 && j1939_answers_close(&answers) == 0);
+    return (unsigned)(taken - before);
+}
+
+/* How much stack the longest answer takes that is kept, and handed in as a transfer. */
+static j1939_request request;
+static void answer(void) { EXPECT(j1939_answers_answer(&answers, &request, payload, sizeof payload) == 1); }
+static void turn(void) { EXPECT(j1939_answers_turn(&answers, &controller, 300000) == 0); }
+
+static void measure_answers(void) {
+    static const uint32_t served[] = {65260};
+    static const j1939_frame asks = {.id = 0x18EA0309, .len = 3, .data = {0xEC, 0xFE, 0}};
+    j1939_setup serves = setup;
+    serves.served = served, serves.served_count = 1;
+    EXPECT(j1939_controller_new(&controller, &serves) == 0 && j1939_answers_new(&answers, 1) == 0);
+    EXPECT(j1939_controller_take_frame(&controller, 5, &out) == 1 && j1939_controller_tick(&controller, 300000) == 0);
+    EXPECT(j1939_controller_hear(&controller, &asks, 300000) == 0);
+    EXPECT(j1939_answers_take_request(&answers, &controller, 300000, &request) == 1);
+    unsigned kept = (unsigned)stack_of(answer), handed = (unsigned)stack_of(turn);
+    printf("answers_answer %u, answers_turn %u bytes of stack\n", kept, handed);
+    EXPECT(j1939_answers_close(&answers) == 0 && j1939_controller_close(&controller) == 0);
+}
+
 int main(void) {
     printf("j1939_node %u, j1939_claims %u, j1939_message %u bytes\n", (unsigned)sizeof node, (unsigned)sizeof node.claims,
            (unsigned)sizeof message);
@@ -187,5 +214,7 @@ int main(void) {
     measure("receiver_close", close_receiver, 0);
     measure("sender_close", close_sender, 0);
     measure("controller_close", close_controller, 0);
+    printf("answers with no box %u, with ten %u bytes\n", answers_of(0), answers_of(10));
+    measure_answers();
     return 0;
 }
