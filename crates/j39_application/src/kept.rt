@@ -19,6 +19,8 @@ pub(crate) trait Waits: Drop {
     /// How a turn ends it.
     type End: Drop;
 
+    // What it shows: when it began with this, later by so much time, and how long it still may wait; and what its turn does, by the
+    // controller before and after, of what it showed, shows then, and how it ended.
     ghost Shown: { Type 0 };
 
     ghost shown: { Self → Shown };

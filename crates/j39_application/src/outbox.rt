@@ -49,8 +49,8 @@ impl Outbox {
     }
 
     /// Keeps a message of 0 to 1,785 bytes for a NAME, with a priority of 0 to 7; answers its number: how many were accepted before.
-    /// `BadValue` for a higher priority number or more bytes, `Full` where each box has one that isn't settled and told.
-    /// In one frame a group of PF 240 and up goes to all.
+    /// `BadValue` for a higher priority number or more bytes, `Full` where each box has one whose end isn't told (or 2^64 - 1 were
+    /// accepted). The controller judges the group (`Settled::Refused`). In one frame a group of PF 240 and up goes to all.
     pub fn send(
         &mut self,
         now: Stamp,
@@ -87,8 +87,9 @@ impl Outbox {
         self.put(now, name, Errand::Request { group })
     }
 
-    /// Hands in each that is kept, the oldest first, to the address that its NAME holds now. What the controller refuses as `Full` stays,
-    /// and what has a NAME without address; for 1,250 ms, which count anew at each turn where the NAME holds one: then it is gone.
+    /// Hands in each that is kept, the oldest first, to the address that its NAME holds now (J1939-81, 4.2). What the controller refuses
+    /// as `Full` stays. So does what has a NAME without address, for 1,250 ms, which count anew from a turn at which the NAME holds one:
+    /// then it is gone.
     pub fn turn(&mut self, controller: &mut Controller, now: Stamp)
         ensures does { (ds : List Deed) × (outbox_of self.new ≡ turned (stamp_micros now) ds (outbox_of self.old))
             × ((w : Who) (H : List Call) → Is w H controller.old
@@ -101,7 +102,7 @@ impl Outbox {
         }
     }
 
-    /// How one was settled, by its number: each once, in the order in which they were. Its box is free from then.
+    /// How one was settled, by its number: each once, in the order in which they were. Its box is free from then. `None` if none is left.
     pub fn take_settled(&mut self) -> Option<(u64, Settled)>
         ensures oldest { result ≡ slice_get (outbox_of self.old).settled 0 }
         ensures frees { outbox_of self.new ≡ tells (outbox_of self.old) }
