@@ -1,6 +1,7 @@
 /* An engine's controller. It claims address 0 and keeps it, also where the bus was away for a while.
  *  - It sends its speed (EEC1) each 20 ms, and its fault codes (DM1) each second.
- *  - It answers requests for its VIN, its component identification and its fault codes; others to it the library refuses.
+ *  - It answers requests for its VIN, its component identification and its fault codes, once there is room, or as busy after 200 ms;
+ *    others to it the library refuses.
  *  - It takes the speed that another asks of it (TSC1), and idles when that one lets go.
  *  - It talks with one partner by proprietary messages, and knows it by its NAME, whatever address that holds: it asks for its speed
  *    each second, and tells it its own where that one asks.
@@ -29,7 +30,8 @@ static const j1939_setup setup = {.name = NAME,
                                   .subscribed = subscribed,
                                   .subscribed_count = sizeof subscribed / sizeof subscribed[0]};
 static j1939_controller engine = J1939_EMPTY;
-static uint8_t memory[J1939_CONTROLLER_SIZE(0, 1, 1)];
+static j1939_answers answers = J1939_EMPTY;
+static uint8_t memory[J1939_CONTROLLER_SIZE(0, 1, 1)], answers_memory[J1939_ANSWERS_SIZE(3)];
 static int64_t speed;
 static uint32_t partners_rpm;
 static uint64_t speed_due, second_due;
@@ -51,10 +53,10 @@ static void send_speed(uint64_t now) {
 }
 
 /* No code, or one: engine speed above its range, FMI 0, and the amber lamp (J1939-73, 5.7.1). */
-static void send_faults(uint64_t now) {
+static const uint8_t *faults(void) {
     static const uint8_t none[8] = {0, 0xFF, 0, 0, 0, 0, 0xFF, 0xFF};
     static const uint8_t too_fast[8] = {0x04, 0xFF, ENGINE_SPEED, 0, 0, 1, 0xFF, 0xFF};
-    send(now, 6, DM1, ALL, speed > HIGHEST_SPEED ? too_fast : none, 8);
+    return speed > HIGHEST_SPEED ? too_fast : none;
 }
 
 /* A proprietary message of ours: what it is, and a speed in rpm, of which a question has the last that came. */
@@ -76,17 +78,11 @@ static void be_told(uint64_t now, const j1939_message *message) {
     if (message->data[0] == TOLD) partners_rpm = message->data[1] + 256u * message->data[2];
 }
 
-/* A VIN or a component identification goes in packets: to all where all were asked, else to who asked, or BUSY. */
-static void answer(uint64_t now, const j1939_request *request) {
-    const uint8_t *text = request->pgn == VIN ? vin : component;
-    size_t size = request->pgn == VIN ? sizeof vin - 1 : sizeof component - 1;
-    uint8_t to = request->destination == ALL ? ALL : request->source;
-    uint64_t token;
-    if (request->pgn == DM1) {
-        send_faults(now);
-    } else if (j1939_controller_send(&engine, now, 6, request->pgn, to, text, size, &token) < 0 && to != ALL) {
-        (void)j1939_controller_acknowledge(&engine, now, request, J1939_BUSY);
-    }
+/* To all where all were asked, else to who asked. */
+static void answer(const j1939_request *request) {
+    if (request->pgn == VIN) (void)j1939_answers_answer(&answers, request, vin, sizeof vin - 1);
+    if (request->pgn == COMPONENT) (void)j1939_answers_answer(&answers, request, component, sizeof component - 1);
+    if (request->pgn == DM1) (void)j1939_answers_answer(&answers, request, faults(), 8);
 }
 
 /* Override control mode 0 lets go, 1 asks for the speed in bytes 2 and 3, of 0.125 rpm a bit, up to FAFF (J1939-71, TSC1). */
@@ -108,7 +104,7 @@ static void hear(uint64_t now) {
             if (message.pgn == TSC1) be_controlled(&message);
             if (message.pgn == PROPRIETARY_A) be_told(now, &message);
         }
-        while (j1939_controller_take_request(&engine, &request) > 0) answer(now, &request);
+        while (j1939_answers_take_request(&answers, &engine, now, &request) > 0) answer(&request);
         while (j1939_controller_take_news(&engine) > 0) {}
     }
 }
@@ -122,10 +118,11 @@ static void send_due(uint64_t now) {
         speed_due = now + SPEED_PERIOD;
     }
     if (now >= second_due) {
-        send_faults(now);
+        send(now, 6, DM1, ALL, faults(), 8);
         ask_partner(now);
         second_due = now + SECOND;
     }
+    (void)j1939_answers_turn(&answers, &engine, now);
     (void)j1939_controller_tick(&engine, now);
     while (can_has_room() && j1939_controller_take_frame(&engine, now, &frame) > 0) can_put(&frame);
     while (j1939_controller_take_ended(&engine, &ended) > 0) {}
@@ -134,6 +131,7 @@ static void send_due(uint64_t now) {
 int ecu_run(void) {
     speed = IDLE_SPEED;
     if (j1939_controller_at(&engine, memory, sizeof memory, &setup) != 0) return 1;
+    if (j1939_answers_at(&answers, answers_memory, sizeof answers_memory, 3) != 0) return 1;
     for (;;) {
         uint64_t now = clock_micros();
         if (can_is_back()) (void)j1939_controller_again(&engine, now);

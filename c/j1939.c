@@ -115,6 +115,11 @@ int32_t j39_controller_take_request(j1939_handle *controller, j1939_request *req
 int32_t j39_controller_acknowledge(j1939_handle *controller, uint64_t micros, const j1939_request *request,
                                    uint8_t answer);
 int32_t j39_controller_take_news(j1939_handle *controller);
+int32_t j39_answers_new(j1939_handle *answers, uint8_t boxes);
+int32_t j39_answers_take_request(j1939_handle *answers, j1939_handle *controller, uint64_t micros, j1939_request *request);
+int32_t j39_answers_answer(j1939_handle *answers, const j1939_request *request, const uint8_t *payload, uint64_t size);
+int32_t j39_answers_turn(j1939_handle *answers, j1939_handle *controller, uint64_t micros);
+int32_t j39_answers_due_in(j1939_handle *answers, uint64_t *micros);
 
 int32_t j1939_id_split(uint32_t id, j1939_id_fields *fields) {
     return fields ? j39_id_split(id, fields) : J1939_NULL;
@@ -597,4 +602,43 @@ int32_t j1939_controller_take_news(j1939_controller *controller) {
 
 int32_t j1939_controller_close(j1939_controller *controller) {
     return controller ? close_handle(&controller->handle) : J1939_NULL;
+}
+
+int32_t j1939_answers_new(j1939_answers *answers, uint8_t boxes) {
+    return answers ? j39_answers_new(&answers->handle, boxes) : J1939_NULL;
+}
+
+size_t j1939_answers_size(uint8_t boxes) {
+    return J1939_ANSWERS_SIZE(boxes);
+}
+
+int32_t j1939_answers_at(j1939_answers *answers, void *memory, size_t size, uint8_t boxes) {
+    if (!answers || !memory) return J1939_NULL;
+    if (!begin_at(&answers->handle, memory, size)) return J1939_IN_USE;
+    return end_at(&answers->handle, j1939_answers_new(answers, boxes));
+}
+
+int32_t j1939_answers_take_request(j1939_answers *answers, j1939_controller *controller, uint64_t micros,
+                                   j1939_request *request) {
+    return answers && controller && request
+               ? j39_answers_take_request(&answers->handle, &controller->handle, micros, request)
+               : J1939_NULL;
+}
+
+int32_t j1939_answers_answer(j1939_answers *answers, const j1939_request *request, const uint8_t *payload, size_t size) {
+    return answers && request && payload ? j39_answers_answer(&answers->handle, request, payload, size) : J1939_NULL;
+}
+
+int32_t j1939_answers_turn(j1939_answers *answers, j1939_controller *controller, uint64_t micros) {
+    return answers && controller ? j39_answers_turn(&answers->handle, &controller->handle, micros) : J1939_NULL;
+}
+
+int32_t j1939_answers_due_in(const j1939_answers *answers, uint64_t *micros) {
+    if (!answers || !micros) return J1939_NULL;
+    j1939_handle held = answers->handle;
+    return j39_answers_due_in(&held, micros);
+}
+
+int32_t j1939_answers_close(j1939_answers *answers) {
+    return answers ? close_handle(&answers->handle) : J1939_NULL;
 }

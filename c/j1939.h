@@ -16,11 +16,11 @@
  * (enum j1939_news)answer the compiler's -Wswitch finds the one that is forgotten.
  *
  * Where two apply. J1939_NULL goes first. A call that opens a handle answers J1939_IN_USE before J1939_BAD_VALUE, and
- * that before J1939_NO_MEMORY. Each other call answers J1939_BAD_VALUE for a frame, a moment, a group of 2^18 and above
- * or an acknowledgment out of its range before J1939_NO_PART, and that before all the rest.
+ * that before J1939_NO_MEMORY. Each other call answers J1939_BAD_VALUE for a frame, a moment, a group of 2^18 and above,
+ * an acknowledgment or a kept answer out of its range before J1939_NO_PART, and that before all the rest.
  *
  * Storage. j1939_node, j1939_claims, j1939_peers and j1939_broadcast are plain data in your own memory: make them by their .._init.
- * They take no memory besides, need no close, and may be copied. A j1939_controller, a j1939_listener, a
+ * They take no memory besides, need no close, and may be copied. A j1939_controller, j1939_answers, a j1939_listener, a
  * j1939_assembler, a j1939_receiver and a j1939_sender are handles: set one to J1939_EMPTY, open it by its .._new,
  * close it by its .._close. What it holds lies on the heap, or, where it is opened by its .._at in place of .._new, in memory
  * of yours; it is the library's, and a call that takes a const handle changes nothing of it. Frames, messages, readings
@@ -411,6 +411,10 @@ typedef struct {
     j1939_handle handle;
 } j1939_controller;
 
+typedef struct {
+    j1939_handle handle;
+} j1939_answers;
+
 /** A handle that holds nothing. */
 /* clang-format off */
 #define J1939_EMPTY {{0, 0}}
@@ -418,8 +422,8 @@ typedef struct {
 
 /* How many bytes .._at wants for each kind of handle, wherever they begin; .._size answers the same of the library that a program is
  * linked with. A listener's and an assembler's have room for so many messages in packets that are open at once, the one handed out
- * last among them, at most 271; a sender's for so many bytes of a message, a controller's for so many broadcasts, sessions and transfers. No call with such
- * a handle takes other memory. */
+ * last among them, at most 271; a sender's for so many bytes of a message, a controller's for so many broadcasts, sessions and transfers,
+ * answers' for so many requests that are open at once. No call with such a handle takes other memory. */
 /* clang-format off */
 #define J1939_LISTENER_SIZE(messages) (6720 + 1824 * (size_t)(messages))
 #define J1939_ASSEMBLER_SIZE(messages) (4416 + 1824 * (size_t)(messages))
@@ -427,6 +431,7 @@ typedef struct {
 #define J1939_SENDER_SIZE(bytes) (192 + (size_t)(bytes))
 #define J1939_CONTROLLER_SIZE(broadcasts, sessions, transfers) \
     (7296 + 1888 * (size_t)(broadcasts) + 3744 * (size_t)(sessions) + 1952 * (size_t)(transfers))
+#define J1939_ANSWERS_SIZE(boxes) (192 + 1872 * (size_t)(boxes))
 /* clang-format on */
 
 /* ---- a listener (J1939-21, 5.10; J1939-81, 4.2) */
@@ -850,6 +855,55 @@ int32_t j1939_controller_take_news(j1939_controller *controller);
 /** Closes it. Closing an empty one does nothing.
  * @return 0 */
 int32_t j1939_controller_close(j1939_controller *controller);
+
+/* ---- answers that are kept (J1939-21, 5.4.2 and 5.4.4)
+ *
+ * Where a program's answer finds no room at once, or isn't there yet, these keep it, so that no request is forgotten: take requests by
+ * j1939_answers_take_request in place of j1939_controller_take_request. Each is open from then on: till its answer is accepted by the
+ * controller, or, after 200 ms, it is refused. The loop:
+ *  - after j1939_controller_hear, .._take_request until it answers 0, and .._answer for each, at once or later;
+ *  - then, after each other .._answer, and once .._due_in is over, .._turn.
+ *
+ * A handle that holds no answers, or no controller, is answered by J1939_NO_PART, and then both are as they were. */
+
+/** Opens answers with boxes for so many open requests, 0 to 255; none is open yet. It takes all its memory here, 1.9 kB for each.
+ * @return 0, J1939_NO_MEMORY, J1939_IN_USE */
+int32_t j1939_answers_new(j1939_answers *answers, uint8_t boxes);
+
+/** How many bytes .._at wants for so many boxes. */
+size_t j1939_answers_size(uint8_t boxes);
+
+/** Opens such answers in memory of yours; J1939_NO_MEMORY where it is too small.
+ * @return 0, J1939_NO_MEMORY, J1939_IN_USE */
+int32_t j1939_answers_at(j1939_answers *answers, void *memory, size_t size, uint8_t boxes);
+
+/** Takes the oldest request that waits in the controller, if a box is free: 1, and *request is open from now on; 0 where none waits, or
+ * no box is free: then those that wait stay.
+ * @return 0, 1, J1939_BAD_VALUE, J1939_NO_PART */
+int32_t j1939_answers_take_request(j1939_answers *answers, j1939_controller *controller, uint64_t micros,
+                                   j1939_request *request);
+
+/** Keeps these bytes, 0 to 1785, for the oldest open request of this source, destination and group that has no answer yet: 1, or 0 where
+ * there is none. The bytes are copied; they go out by the turns behind it. J1939_BAD_VALUE for more bytes, or a group of 2^18 and above.
+ * Where size is 0, payload must not be NULL.
+ * @return 0, 1, J1939_BAD_VALUE, J1939_NO_PART */
+int32_t j1939_answers_answer(j1939_answers *answers, const j1939_request *request, const uint8_t *payload, size_t size);
+
+/** Gives each open request its turn, the oldest first. Its answer is handed in as by j1939_controller_send, with priority 6: to all where
+ * all were asked, else to who asked; its end is told by .._take_ended under a token that isn't told here. What has no answer, or finds
+ * no room, stays till its 200 ms are over: then it is refused as by j1939_controller_acknowledge with J1939_BUSY, and
+ * stays only while there is no room for that; one to all is dropped. So is what can't be sent for another reason.
+ * @return 0, J1939_BAD_VALUE, J1939_NO_PART */
+int32_t j1939_answers_turn(j1939_answers *answers, j1939_controller *controller, uint64_t micros);
+
+/** In how many microseconds the first 200 ms are over, from the last .._turn on, or the last .._take_request that found a box free: 1 and
+ * the time, 0 of which is left where they are over; or 0 where no request is open.
+ * @return 0, 1, J1939_NO_PART */
+int32_t j1939_answers_due_in(const j1939_answers *answers, uint64_t *micros);
+
+/** Closes it: what was open is forgotten. Closing an empty one does nothing.
+ * @return 0 */
+int32_t j1939_answers_close(j1939_answers *answers);
 
 #ifdef __cplusplus
 }

@@ -29,6 +29,7 @@ static void null_pointers(void) {
     j1939_receiver receiver = J1939_EMPTY;
     j1939_sender sender = J1939_EMPTY;
     j1939_controller controller = J1939_EMPTY;
+    j1939_answers kept = J1939_EMPTY;
     j1939_setup setup = {.name = 1}, serving = {.served_count = 1}, wanting = {.is_subscribed = 1, .subscribed_count = 1};
     j1939_request request;
     j1939_frame frame = {0};
@@ -120,6 +121,15 @@ static void null_pointers(void) {
     EXPECT(j1939_controller_free_address(&controller, NULL) == J1939_NULL);
     EXPECT(j1939_controller_move_to(NULL, 0) == J1939_NULL);
     EXPECT(j1939_controller_close(NULL) == J1939_NULL);
+    EXPECT(j1939_answers_new(NULL, 1) == J1939_NULL);
+    EXPECT(j1939_answers_at(&kept, NULL, 0, 1) == J1939_NULL);
+    EXPECT(j1939_answers_take_request(&kept, NULL, 0, &request) == J1939_NULL);
+    EXPECT(j1939_answers_take_request(&kept, &controller, 0, NULL) == J1939_NULL);
+    EXPECT(j1939_answers_answer(&kept, NULL, payload, 1) == J1939_NULL);
+    EXPECT(j1939_answers_answer(&kept, &request, NULL, 0) == J1939_NULL);
+    EXPECT(j1939_answers_turn(NULL, &controller, 0) == J1939_NULL);
+    EXPECT(j1939_answers_due_in(&kept, NULL) == J1939_NULL);
+    EXPECT(j1939_answers_close(NULL) == J1939_NULL);
 }
 
 static void fields(void) {
@@ -934,6 +944,7 @@ static void const_handles(void) {
     static const j1939_receiver receiver = J1939_EMPTY;
     static const j1939_sender sender = J1939_EMPTY;
     static const j1939_controller controller = J1939_EMPTY;
+    static const j1939_answers kept = J1939_EMPTY;
     uint64_t number;
     uint8_t byte;
     EXPECT(j1939_listener_holder(&listener, 0, &number) == J1939_NO_PART);
@@ -950,6 +961,7 @@ static void const_handles(void) {
     EXPECT(j1939_peers_take(&peers, &controller, &peer) == J1939_NO_PART);
     EXPECT(j1939_peers_heard_since(&peers, &controller, 1, 0) == J1939_NO_PART);
     EXPECT(j1939_controller_missed(&controller, &number) == J1939_NO_PART);
+    EXPECT(j1939_answers_due_in(&kept, &number) == J1939_NO_PART);
 }
 
 /* What is told next: at this address this NAME was told last, and that one holds it now; 0 for nobody. */
@@ -1007,6 +1019,95 @@ static void subscribed(void) {
     EXPECT(message.pgn == 65262 && j1939_controller_close(&controller) == 0);
 }
 
+/* 0B asks an address, or all, for a group. */
+static void asks(j1939_controller *controller, uint32_t pgn, uint8_t to, uint64_t now) {
+    j1939_frame frame = {.id = 0x18EA000Bu | (uint32_t)to << 8, .len = 3, .data = {(uint8_t)pgn, (uint8_t)(pgn >> 8), 0}};
+    EXPECT(j1939_controller_hear(controller, &frame, now) == 0);
+}
+
+/* The next frame has this identifier and these bytes. */
+static int goes(j1939_controller *controller, uint64_t now, uint32_t id, const uint8_t bytes[8]) {
+    return taken(controller, now) == id && out.len == 8 && memcmp(out.data, bytes, 8) == 0;
+}
+
+static int has_left(const j1939_answers *kept, uint64_t time) {
+    uint64_t left = 0;
+    return j1939_answers_due_in(kept, &left) == 1 && left == time;
+}
+
+/* Each call with a pair of handles of which one holds another part, or none: what the other holds stays. */
+static void no_answers(j1939_answers *kept, j1939_controller *controller) {
+    j1939_request request = {.pgn = 7};
+    EXPECT(j1939_answers_take_request(kept, controller, 1, &request) == J1939_NO_PART && request.pgn == 7);
+    EXPECT(j1939_answers_turn(kept, controller, 1) == J1939_NO_PART);
+    EXPECT(j1939_answers_take_request(kept, controller, LATE, &request) == J1939_BAD_VALUE && request.pgn == 7);
+    EXPECT(j1939_answers_turn(kept, controller, LATE) == J1939_BAD_VALUE);
+}
+
+/* Two requests are taken in their order. The first is answered in packets. So there is no room for the other in 200 ms: it is refused. */
+static void answered_and_refused(j1939_answers *kept, j1939_controller *controller) {
+    static const uint8_t rts[8] = {0x10, 18, 0, 3, 0xFF, 0xEC, 0xFE, 0}, busy[8] = {3, 0xFF, 0xFF, 0xFF, 0x0B, 0xEB, 0xFE, 0};
+    j1939_request first, second = {.pgn = 7};
+    uint64_t left = 7;
+    EXPECT(j1939_answers_due_in(kept, &left) == 0 && left == 7);
+    EXPECT(j1939_answers_take_request(kept, controller, 300000, &second) == 0 && second.pgn == 7);
+    asks(controller, 65260, 0x80, 300000), asks(controller, 65259, 0x80, 300000);
+    EXPECT(j1939_answers_take_request(kept, controller, 300000, &first) == 1 && first.pgn == 65260);
+    EXPECT(first.source == 0x0B && first.destination == 0x80 && !first.is_named);
+    EXPECT(j1939_answers_take_request(kept, controller, 300000, &second) == 1 && second.pgn == 65259);
+    asks(controller, 65260, 255, 300000);
+    EXPECT(j1939_answers_take_request(kept, controller, 300000, &second) == 0 && second.pgn == 65259);
+    EXPECT(j1939_answers_answer(kept, &first, payload, 1786) == J1939_BAD_VALUE);
+    EXPECT(j1939_answers_answer(kept, &first, payload, 18) == 1 && j1939_answers_answer(kept, &first, payload, 18) == 0);
+    EXPECT(j1939_answers_answer(kept, &second, payload, 1785) == 1);
+    second.pgn = 1u << 18;
+    EXPECT(j1939_answers_answer(kept, &second, payload, 18) == J1939_BAD_VALUE);
+    EXPECT(j1939_answers_turn(kept, controller, 300000) == 0 && has_left(kept, 200000));
+    EXPECT(goes(controller, 300000, 0x1CEC0B80, rts) && taken(controller, 300000) == 0);
+    EXPECT(j1939_answers_turn(kept, controller, 499999) == 0 && has_left(kept, 1) && taken(controller, 499999) == 0);
+    EXPECT(j1939_answers_turn(kept, controller, 500000) == 0 && j1939_answers_due_in(kept, &left) == 0);
+    EXPECT(goes(controller, 500000, 0x18E8FF80, busy) && taken(controller, 500000) == 0);
+}
+
+/* One to all waited for a box, and is answered to all; the next has no answer in 200 ms, and is dropped. */
+static void answered_and_dropped(j1939_answers *kept, j1939_controller *controller) {
+    static const uint8_t announced[8] = {0x20, 18, 0, 3, 0xFF, 0xEC, 0xFE, 0};
+    j1939_request request;
+    uint64_t left = 7;
+    EXPECT(j1939_answers_take_request(kept, controller, 600000, &request) == 1 && request.destination == 255);
+    EXPECT(j1939_answers_answer(kept, &request, payload, 18) == 1 && j1939_answers_turn(kept, controller, 600000) == 0);
+    EXPECT(goes(controller, 600000, 0x1CECFF80, announced) && j1939_answers_due_in(kept, &left) == 0);
+    asks(controller, 65259, 255, 600000);
+    EXPECT(j1939_answers_take_request(kept, controller, 600000, &request) == 1 && has_left(kept, 200000));
+    while (taken(controller, 800000)) EXPECT(out.id == 0x1CEBFF80);
+    EXPECT(j1939_answers_turn(kept, controller, 800000) == 0 && j1939_answers_due_in(kept, &left) == 0);
+    EXPECT(taken(controller, 850000) == 0x1CEBFF80 && taken(controller, 999999) == 0);
+}
+
+static void kept_answers(void) {
+    static const uint32_t served[] = {65260, 65259};
+    j1939_setup setup = {.name = 1, .address = 0x80, .transfers = 1, .served = served, .served_count = 2};
+    j1939_controller controller = J1939_EMPTY, no_controller = J1939_EMPTY;
+    j1939_answers kept = J1939_EMPTY;
+    j1939_listener foreign = J1939_EMPTY;
+    EXPECT(j1939_controller_new(&controller, &setup) == 0 && j1939_listener_new(&foreign) == 0);
+    EXPECT(taken(&controller, 0) == 0x18EEFF80 && j1939_controller_tick(&controller, 250000) == 0);
+    no_answers(&kept, &controller), no_answers((j1939_answers *)&foreign, &controller);
+    for (long granted = 0; granted < 6; granted++) {
+        allowed = granted;
+        EXPECT(j1939_answers_new(&kept, 2) == J1939_NO_MEMORY && !kept.handle.part);
+    }
+    allowed = 6;
+    EXPECT(j1939_answers_new(&kept, 2) == 0 && j1939_answers_new(&kept, 2) == J1939_IN_USE);
+    no_answers(&kept, &no_controller), no_answers(&kept, (j1939_controller *)&foreign);
+    EXPECT(allowed == 0); /* from here on it takes no memory */
+    answered_and_refused(&kept, &controller);
+    answered_and_dropped(&kept, &controller);
+    allowed = -1;
+    EXPECT(j1939_answers_close(&kept) == 0 && j1939_answers_close(&kept) == 0);
+    EXPECT(j1939_controller_close(&controller) == 0 && j1939_listener_close(&foreign) == 0);
+}
+
 int main(void) {
     null_pointers();
     fields();
@@ -1024,6 +1125,7 @@ int main(void) {
     controllers();
     peers_of();
     subscribed();
+    kept_answers();
     const_handles();
     return 0;
 }

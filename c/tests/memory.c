@@ -11,6 +11,7 @@ static uint8_t around[LARGEST];
 
 static j1939_setup setup = {.name = 1, .address = 3};
 static size_t bytes;
+static uint8_t boxes;
 static j1939_listener listener = J1939_EMPTY;
 static j1939_assembler assembler = J1939_EMPTY;
 static j1939_message message;
@@ -47,6 +48,15 @@ static int32_t open_controller(void *memory, size_t size) {
     int32_t answer = j1939_controller_at(&controller, memory, size, &setup);
     EXPECT(answer ? !controller.handle.part && !controller.handle.memory : j1939_controller_take_frame(&controller, 1, &frame) == 1);
     EXPECT(j1939_controller_close(&controller) == 0 && !controller.handle.memory);
+    return answer;
+}
+
+static int32_t open_answers(void *memory, size_t size) {
+    j1939_answers answers = J1939_EMPTY;
+    uint64_t time;
+    int32_t answer = j1939_answers_at(&answers, memory, size, boxes);
+    EXPECT(answer ? !answers.handle.part && !answers.handle.memory : j1939_answers_due_in(&answers, &time) == 0);
+    EXPECT(j1939_answers_close(&answers) == 0 && !answers.handle.memory);
     return answer;
 }
 
@@ -95,14 +105,17 @@ static void sizes(void) {
     wants(open_receiver, j1939_receiver_size()), refuses(open_receiver, j1939_receiver_size());
     for (bytes = 9; bytes <= J1939_LONGEST; bytes++) wants(open_sender, j1939_sender_size(bytes));
     bytes = 20, refuses(open_sender, j1939_sender_size(20));
-    for (int boxes = 0; boxes < 256; boxes++) {
-        setup.broadcasts = (uint8_t)boxes, setup.sessions = setup.transfers = 0;
+    for (int many = 0; many < 256; many++) {
+        boxes = (uint8_t)many;
+        setup.broadcasts = boxes, setup.sessions = setup.transfers = 0;
         wants(open_controller, j1939_controller_size(&setup));
-        setup.broadcasts = 0, setup.sessions = (uint8_t)boxes;
+        setup.broadcasts = 0, setup.sessions = boxes;
         wants(open_controller, j1939_controller_size(&setup));
-        setup.sessions = 0, setup.transfers = (uint8_t)boxes;
+        setup.sessions = 0, setup.transfers = boxes;
         wants(open_controller, j1939_controller_size(&setup));
+        wants(open_answers, j1939_answers_size(boxes));
     }
+    boxes = 2, refuses(open_answers, j1939_answers_size(2));
     setup.broadcasts = 2, setup.sessions = 2, setup.transfers = 2, refuses(open_controller, j1939_controller_size(&setup));
     EXPECT(j1939_listener_size(2) == J1939_LISTENER_SIZE(2) && j1939_listener_size(1000) == J1939_LISTENER_SIZE(271));
     EXPECT(j1939_controller_size(NULL) == 0);

@@ -55,6 +55,7 @@ static j1939_assembler assemblers[PARTS];
 static j1939_receiver receivers[PARTS];
 static j1939_sender senders[PARTS];
 static j1939_controller controllers[PARTS];
+static j1939_answers answers[PARTS];
 static j1939_node nodes[PARTS];
 static j1939_claims claims[PARTS];
 static j1939_broadcast broadcasts[PARTS];
@@ -259,6 +260,29 @@ static void call_controller(j1939_controller *controller, uint8_t address) {
     }
 }
 
+/* Answers with a controller, or with a handle of another kind. */
+static void call_answers(j1939_answers *kept, j1939_controller *controller) {
+    static uint8_t payload[1800];
+    j1939_request request = {.pgn = 65260, .source = (uint8_t)(next() % 3), .destination = 255};
+    size_t size = (size_t)(next() % 64 ? next() % 30 : next() % sizeof payload);
+    uint64_t time = 0;
+    payload[next() % sizeof payload] = (uint8_t)size;
+    switch (next() % 8) {
+    case 0: answered(j1939_answers_new(kept, (uint8_t)(next() % 4)), J1939_IN_USE, 0); break;
+    case 1:
+        if (next() % 256 == 0) answered(j1939_answers_close(kept), 0, 0);
+        break;
+    case 2: answered(j1939_answers_due_in(kept, &time), J1939_NO_PART, 1), mix(time); break;
+    case 3: case 4:
+        if (answered(j1939_answers_take_request(kept, controller, now, &request), J1939_NO_PART, 1) == 1)
+            mix(request.pgn), mix(request.source), mix(request.destination);
+        if (next() % 2) answered(j1939_answers_answer(kept, &request, payload, size), J1939_NO_PART, 1);
+        break;
+    case 5: answered(j1939_answers_turn(kept, (j1939_controller *)&receivers[0], now), J1939_NO_PART, J1939_BAD_VALUE); break;
+    default: answered(j1939_answers_turn(kept, controller, now), J1939_NO_PART, 0);
+    }
+}
+
 /* A message of a group of the table, or of any length, and what is read in it. */
 static void read_message(void) {
     static const uint32_t groups[] = {61443, 61444, 65226, 65253, 65260, 65262, 65265};
@@ -330,13 +354,14 @@ int main(int argc, char **argv) {
         switch (next() % 8) {
         case 0: call_plain(i, address); break;
         case 1: case 2: call_controller(&controllers[i], address); break;
+        case 3: call_answers(&answers[i], &controllers[i]); break;
         default: call_handles(i, address);
         }
     }
     refuses = 0;
     for (size_t i = 0; i < PARTS; i++) {
         EXPECT(j1939_listener_close(&listeners[i]) == 0 && j1939_receiver_close(&receivers[i]) == 0);
-        EXPECT(j1939_assembler_close(&assemblers[i]) == 0);
+        EXPECT(j1939_assembler_close(&assemblers[i]) == 0 && j1939_answers_close(&answers[i]) == 0);
         EXPECT(j1939_sender_close(&senders[i]) == 0 && j1939_controller_close(&controllers[i]) == 0);
     }
     printf("%08lx%08lx\n", (unsigned long)(sum >> 32), (unsigned long)(sum & 0xFFFFFFFF));

@@ -18,10 +18,10 @@ pub record Opens {P : Type 0} (part_in : Option Part → Option P) (fits : Type 
   -- refused: the handle is as it was
   pub refused : IsRefused code → new ≡ old
 
--- a call that asks the part of a handle, which holds `old` before it and `new` after it: `fits` says that the values it
--- is given are in range, `does` what becomes of the part, and `wants` when memory may be refused
-pub record Asks {P : Type 0} (part_in : Option Part → Option P) (fits : Type 0) (old : Option Part) (code : ℤ)
-    (new : Option Part) (does : P → P → Type 0) (wants : P → Type 0) : Type 0 where
+-- a call that asks the part of a handle, which holds `old` before it and `new` after it, or the parts of two: `fits` says
+-- that the values it is given are in range, `does` what becomes of the part, and `wants` when memory may be refused
+pub record Asks {H P : Type 0} (part_in : H → Option P) (fits : Type 0) (old : H) (code : ℤ) (new : H)
+    (does : P → P → Type 0) (wants : P → Type 0) : Type 0 where
   -- done: that became of the part
   pub done : fits → IsDone code → IfSome (part_in old) (λ o. IsSomeAnd (part_in new) (λ n. does o n))
   -- refused, though the handle holds such a part: memory was

@@ -9,6 +9,7 @@ pub mod Faults
 pub mod Fields
 pub mod HandleOwns
 pub mod Holders
+pub mod KeptAnswers
 pub mod Messages
 pub mod Nodes
 pub mod OwnTables

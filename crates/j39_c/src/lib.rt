@@ -12,6 +12,7 @@ mod faults;
 mod fields;
 mod handed_out;
 mod handle;
+mod kept_answers;
 mod listener;
 mod loose;
 mod message;
@@ -46,6 +47,10 @@ pub use fields::{
 };
 pub use handed_out::{PlainEnded, PlainRequest};
 pub use handle::{Handle, j39_close};
+pub use kept_answers::{
+    j39_answers_answer, j39_answers_due_in, j39_answers_new, j39_answers_take_request,
+    j39_answers_turn,
+};
 pub use listener::{
     j39_listener_feed, j39_listener_feed_as, j39_listener_holder, j39_listener_new,
 };

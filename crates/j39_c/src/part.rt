@@ -1,6 +1,7 @@
 //! The parts of the stack that a handle can hold.
 
 use crate::emptied::Emptied;
+use j39_application::Answers;
 use j39_listen::Listener;
 use j39_node::Controller;
 use j39_transport::{Assembler, OwnedSender, Receiver};
@@ -13,6 +14,7 @@ pub(crate) enum Part {
     Sending(Box<OwnedSender>),
     Assembling(Emptied<Assembler>),
     Controlling(Box<Controller>),
+    Answering(Box<Answers>),
 }
 
 /// What the part of this kind in a handle answers, or that the handle holds none: the part is taken out, asked, and put
@@ -32,19 +34,22 @@ macro_rules! ask {
         }
     };
     ($alloc:ident, $handle:ident, Listening($held:ident) => $answer:expr) => {
-        ask!(@$alloc, $handle, Listening($held) => $answer, Receiving Sending Assembling Controlling)
+        ask!(@$alloc, $handle, Listening($held) => $answer, Receiving Sending Assembling Controlling Answering)
     };
     ($alloc:ident, $handle:ident, Receiving($held:ident) => $answer:expr) => {
-        ask!(@$alloc, $handle, Receiving($held) => $answer, Listening Sending Assembling Controlling)
+        ask!(@$alloc, $handle, Receiving($held) => $answer, Listening Sending Assembling Controlling Answering)
     };
     ($alloc:ident, $handle:ident, Sending($held:ident) => $answer:expr) => {
-        ask!(@$alloc, $handle, Sending($held) => $answer, Listening Receiving Assembling Controlling)
+        ask!(@$alloc, $handle, Sending($held) => $answer, Listening Receiving Assembling Controlling Answering)
     };
     ($alloc:ident, $handle:ident, Assembling($held:ident) => $answer:expr) => {
-        ask!(@$alloc, $handle, Assembling($held) => $answer, Listening Receiving Sending Controlling)
+        ask!(@$alloc, $handle, Assembling($held) => $answer, Listening Receiving Sending Controlling Answering)
     };
     ($alloc:ident, $handle:ident, Controlling($held:ident) => $answer:expr) => {
-        ask!(@$alloc, $handle, Controlling($held) => $answer, Listening Receiving Sending Assembling)
+        ask!(@$alloc, $handle, Controlling($held) => $answer, Listening Receiving Sending Assembling Answering)
+    };
+    ($alloc:ident, $handle:ident, Answering($held:ident) => $answer:expr) => {
+        ask!(@$alloc, $handle, Answering($held) => $answer, Listening Receiving Sending Assembling Controlling)
     };
 }
 

@@ -14,4 +14,5 @@ returns-after-deref_mut-clause-refused c = elim c.match-deref_mut.branch [
   | goal.in-Receiving w ↦ search rules
   | goal.in-Sending w ↦ search rules
   | goal.in-Controlling w ↦ search rules
+  | goal.in-Answering w ↦ search rules
 ]
