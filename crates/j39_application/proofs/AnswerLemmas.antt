@@ -1,7 +1,8 @@
 -- Answers in their list, one given, and all by turns.
-use Rattle.std.proofs.Common.{[], if◌then◌else◌, ◌&&◌, ◌+◌, ◌++◌, ◌<◌, ◌≢◌, ◌≤◌, ◌∙◌, ◌∷◌, ◌≡◌, ap, append_assoc, arith, Bool, Err, false, get_or, length, List, map, nat_le, not, None, Ok, refl, Result, set, Some, subst, suc, sym, true, zero, ℕ}
+use Rattle.std.proofs.Common.{[], if◌then◌else◌, ◌&&◌, ◌+◌, ◌++◌, ◌<◌, ◌≢◌, ◌≤◌, ◌∙◌, ◌∷◌, ◌≡◌, ap, append_assoc, arith, Bool, Err, false, get_or, length, List, map, nat_le, not, None, Ok, Option, refl, Result, set, Some, subst, suc, sym, true, zero, ℕ}
 use Rattle.std.proofs.lemmas.List.Elements.{All-cons}
 use Rattle.std.specs.List.{All, position, position_or_len}
+use Rattle.std.specs.Option.{is_some}
 use Rattle.j39_frame.specs.Address.{global_address}
 use Rattle.j39_node.specs.History.{Asked, Call, Draft}
 use Rattle.j39_node.specs.History.Act.{Acknowledge}
@@ -11,6 +12,7 @@ use Rattle.j39_node.specs.declared.controller.Controller.{Controller}
 use Rattle.j39_node.specs.declared.kinds.Answer.TheVariants.{Busy}
 use Rattle.j39_node.specs.declared.kinds.Refused.{Refused}
 use Rattle.j39_node.specs.declared.kinds.Refused.TheVariants.{Full}
+use Rattle.j39_application.specs.Kept.{stays as stays_in}
 use Rattle.j39_application.specs.Sending.{sent_as}
 use Rattle.j39_application.specs.Answers.{answered, answers, AnswersRecord, calls, Deed, Does, hands_in, is_fate, IsLeft, IsMet, kept, lacks, LeadsOn, Open, refuses, reply, requests_of}
 use Rattle.j39_application.specs.Answers.Does.{accepted, refused, too_late, unrefusable, unrefused, unsendable, waits}
@@ -156,6 +158,17 @@ pub record IsUnderWay (now n k : ℕ) (all left : List Open) (b c : Controller) 
 abbrev pub MeetsFirst : ℕ → List Open → List Open → Controller → Controller → Type 0
 MeetsFirst now old left b c =
     (o : Open) (R : List Open) → old ≡ o ∷ R → (settled : Bool) × IsMet now o settled b c × (left ≡ R ++ (if settled then [] else o ∷ []))
+
+-- as a box tells it
+as_told : (now : ℕ) (o after : Open) (end : Option (Unit {0})) (R left : List Open) (b c : Controller) → after ≡ o → IsMet now o (is_some end) b c
+    → left ≡ R ++ stays_in end after → (settled : Bool) × IsMet now o settled b c × (left ≡ R ++ (if settled then [] else o ∷ []))
+as_told now o after None R left b c e m l = (false, m, l ∙ ap (λ (x : Open). R ++ x ∷ []) e)
+as_told now o after (Some u) R left b c e m l = (true, m, l)
+
+pub as_first : (now : ℕ) (end : Option (Unit {0})) (old left : List Open) (b c : Controller)
+    → ((o : Open) (R : List Open) → old ≡ o ∷ R → (after : Open) × ((after ≡ o) × IsMet now o (is_some end) b c) × (left ≡ R ++ stays_in end after))
+    → MeetsFirst now old left b c
+as_first now end old left b c g o R e = let f = g o R e in as_told now o f.0 end R left b c f.1.0 f.1.1 f.2
 
 kept_by : (o : Open) (settled stays : Bool) → settled ≡ not stays → (if settled then [] else o ∷ []) ≡ (if stays then o ∷ [] else [])
 kept_by o settled true e = ap (λ (b : Bool). if b then [] else o ∷ []) e

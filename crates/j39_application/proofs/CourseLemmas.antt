@@ -11,13 +11,13 @@ use Rattle.j39_application.specs.Answers.Does.{unrefused, waits}
 use Rattle.j39_application.specs.Answers.Fate.{Dropped, HandedIn, Stays, ToldBusy}
 use Rattle.j39_application.specs.Course.{after, AreTurns, Event, Gives, Takes, times_done, times_ended, times_open, times_taken, Turns}
 
-abbrev one : Bool → ℕ
+abbrev pub one : Bool → ℕ
 one b = if b then 1 else 0
 
-count_next : {X : Type 0} (p : X → Bool) (x : X) (xs : List X) → count_by p (x ∷ xs) ≡ one (p x) + count_by p xs
+pub count_next : {X : Type 0} (p : X → Bool) (x : X) (xs : List X) → count_by p (x ∷ xs) ≡ one (p x) + count_by p xs
 count_next p x xs = sum_by-cons (λ x. one (p x)) x xs
 
-count_append : {X : Type 0} (p : X → Bool) (xs ys : List X) → count_by p (xs ++ ys) ≡ count_by p xs + count_by p ys
+pub count_append : {X : Type 0} (p : X → Bool) (xs ys : List X) → count_by p (xs ++ ys) ≡ count_by p xs + count_by p ys
 count_append p xs ys = sum_by-append (λ x. one (p x)) xs ys
 
 count_if : {X : Type 0} (p : X → Bool) (x : X) (b : Bool) → count_by p (if b then x ∷ [] else []) ≡ (if b then one (p x) else 0)

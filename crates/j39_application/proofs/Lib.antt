@@ -6,3 +6,5 @@ pub mod PeerLemmas
 pub mod AnswerLemmas
 -- what became of each request
 pub mod CourseLemmas
+-- what goes to NAMEs by turns, and what became of each
+pub mod OutboxLemmas

@@ -11,7 +11,8 @@ use Rattle.j39_node.specs.declared.controller.Controller.{Controller}
 use Rattle.j39_node.specs.declared.kinds.Answer.TheVariants.{Busy}
 use Rattle.j39_node.specs.declared.kinds.Refused.{Refused}
 use Rattle.j39_node.specs.declared.kinds.Refused.TheVariants.{Full}
-use Rattle.j39_transfers.specs.Transfers.{listed, sooner}
+use Rattle.j39_transfers.specs.Transfers.{listed}
+use Rattle.j39_application.specs.Kept.{soonest as soonest_of}
 use Rattle.j39_application.specs.Sending.{sent_as}
 
 -- a request that is open: who asked whom for what, its answer, if it has one, and what is left of its 200 ms (own), in microseconds
@@ -59,8 +60,7 @@ answers r bytes s = if nat_le (length bytes) 1785 then record s { requests = ans
 
 -- how long the first still has
 abbrev pub soonest : List Open → Option ℕ
-soonest [] = None
-soonest (o ∷ os) = sooner (Some o.left) (soonest os)
+soonest os = soonest_of (λ o. o.left) os
 
 -- ---- a turn
 

@@ -2,8 +2,14 @@
 pub mod Sending
 -- who is there
 pub mod Peers
--- requests that are answered in time
+-- what waits in boxes
+pub mod Kept
+-- requests that are answered in time, and what they went through
 pub mod Answers
+pub mod Course
+-- what goes to NAMEs, and what it went through
+pub mod Outbox
+pub mod OutboxCourse
+-- what the code has
 pub mod Boxes
 pub mod Shown
-pub mod Course

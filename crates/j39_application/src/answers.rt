@@ -4,16 +4,15 @@ ghost use Rattle.std.specs.List.{position, slice_get};
 ghost use Rattle.j39_address.specs.Name.{name_raw};
 ghost use Rattle.j39_node.specs.Reception.{askers};
 ghost use Rattle.std.specs.Option.{option_map};
-ghost use Rattle.std.specs.Vec.{vec_capacity};
 ghost use Rattle.j39_frame.specs.Stamp.{stamp_micros};
 ghost use Rattle.j39_node.specs.History.{Call, Who, handed};
 ghost use Rattle.j39_node.specs.History.Call.{TakeRequest};
 ghost use Rattle.j39_node.specs.Is.{Is};
-ghost use Rattle.j39_application.specs.Answers.{Deed, IsMet, IsTurn, LeadsOn, Open, answers, calls, can_answer, lacks, none_in, older, soonest, takes, turned};
+ghost use Rattle.j39_application.specs.Answers.{Deed, IsTurn, LeadsOn, answers, calls, can_answer, lacks, none_in, soonest, takes, turned};
 ghost use Rattle.j39_application.specs.Boxes.{asked_of, in_box};
-ghost use Rattle.j39_transfers.specs.Transfers.{sooner};
 
-use crate::asked::{Asked, Open as Boxed, pass_all};
+use crate::asked::{Asked, Open as Boxed};
+use crate::kept::Kept;
 use j39_frame::Stamp;
 use j39_node::Controller;
 use std::alloc::{AllocError, Global};
@@ -21,15 +20,7 @@ use std::alloc::{AllocError, Global};
 /// The requests that a program serves and hasn't answered, each in a box (J1939-21, 5.4.2).
 #[derive(Drop)]
 pub struct Answers {
-    pub(crate) boxes: u8,
-    /// The moment that was told last, in microseconds.
-    pub(crate) moment: u64,
-    /// Those that are open, the oldest first.
-    pub(crate) current: Vec<Box<Boxed>>,
-    pub(crate) free: Vec<Box<Boxed>>,
-    pub ghost counted: { length current.items + length free.items ≡ boxes },
-    pub ghost current_fits: { boxes ≤ vec_capacity current },
-    pub ghost free_fits: { boxes ≤ vec_capacity free },
+    pub(crate) kept: Kept<Boxed>,
 }
 
 impl Answers {
@@ -39,16 +30,8 @@ impl Answers {
     pub fn new(alloc: Global, boxes: u8) -> Result<Answers, AllocError>
         ensures { IfOk result (λ s. answers_of s ≡ none_in boxes) }
     {
-        let count = usize::from(boxes);
-        let mut free = Vec::with_capacity(alloc, count)?;
-        for _ in 0..count {
-            free.push_reserved(Box::new(alloc, Boxed::blank())?);
-        }
         Ok(Answers {
-            boxes,
-            moment: 0,
-            current: Vec::with_capacity(alloc, count)?,
-            free,
+            kept: Kept::new(alloc, boxes)?,
         })
     }
 
@@ -63,15 +46,13 @@ impl Answers {
         ensures goes { length (answers_of self.old).requests < (answers_of self.old).boxes
             → (w : Who) (H : List Call) → Is w H controller.old → Is w (TakeRequest (option_map asked_of result) ∷ H) controller.new }
     {
-        if self.free.is_empty() {
+        if self.kept.is_full() {
             return None;
         }
-        self.pass(now);
+        self.kept.pass(now);
         let request = controller.take_request()?;
         let asked = Asked::new(&request);
-        let mut open = self.free.pop()?;
-        open.begin(asked);
-        self.current.push_reserved(open);
+        self.kept.begin(asked);
         Some(asked)
     }
 
@@ -82,7 +63,7 @@ impl Answers {
         ensures keeps { answers_of self.new ≡ answers (asked_of asked) bytes.now (answers_of self.old) }
     {
         match self.place_of(asked) {
-            Some(place) => self.current[place].answer(bytes),
+            Some(place) => self.kept.current[place].answer(bytes),
             None => false,
         }
     }
@@ -95,10 +76,10 @@ impl Answers {
             × (answers_of self.new ≡ turned (stamp_micros now) ds (answers_of self.old))
             × LeadsOn (calls ds) controller.old controller.new }
     {
-        self.pass(now);
-        let count = self.current.len();
+        self.kept.pass(now);
+        let count = self.kept.current.len();
         for _ in 0..count {
-            self.turn_first(controller, now);
+            self.kept.turn_first(controller, now);
         }
     }
 
@@ -107,53 +88,13 @@ impl Answers {
     pub fn due_in(&self) -> Option<u64>
         ensures { result ≡ soonest (answers_of self.now).requests }
     {
-        let mut found = None;
-        for open in &self.current {
-            found = sooner(found, open.left);
-        }
-        found
+        self.kept.due_in()
     }
 
     /// The place of the oldest like this that has no answer.
     fn place_of(&self, asked: Asked) -> Option<usize>
-        ensures { result ≡ position (λ b. lacks (asked_of asked) (in_box b)) self.now.current.items }
+        ensures { result ≡ position (λ b. lacks (asked_of asked) (in_box b)) self.now.kept.current.items }
     {
-        self.current.iter().position(|open| open.lacks(asked))
-    }
-
-    /// The time passes since the last moment that was told; one before it is no time.
-    fn pass(&mut self, now: Stamp)
-        ensures passes { answers_of self.new
-            ≡ record (answers_of self.old) { moment = stamp_micros now; requests = older (stamp_micros now) (answers_of self.old) } }
-        ensures stays { (self.new.free ≡ self.old.free) × (length self.new.current.items ≡ length self.old.current.items) }
-    {
-        let time = now.micros().saturating_sub(self.moment);
-        pass_all(self.current.as_mut_slice(), time);
-        self.moment = now.micros();
-    }
-
-    /// The turn of the first, which goes behind the others, if it stays.
-    fn turn_first(&mut self, controller: &mut Controller, now: Stamp)
-        requires { 0 < length self.old.current.items }
-        ensures meets { (o : Open) (R : List Open) → (answers_of self.old).requests ≡ o ∷ R → (settled : Bool)
-            × IsMet (stamp_micros now) o settled controller.old controller.new
-            × ((answers_of self.new).requests ≡ R ++ (if settled then [] else o ∷ [])) }
-        ensures stays { (self.new.boxes ≡ self.old.boxes) × (self.new.moment ≡ self.old.moment) }
-    {
-        let first = self.current.remove(0);
-        if first.turn(controller, now) {
-            self.free.push_reserved(first);
-        } else {
-            self.current.push_reserved(first);
-        }
-    }
-}
-
-fn sooner(found: Option<u64>, left: u64) -> Option<u64>
-    ensures { result ≡ sooner found (Some left) }
-{
-    match found {
-        None => Some(left),
-        Some(other) => Some(left.min(other)),
+        self.kept.current.iter().position(|open| open.lacks(asked))
     }
 }

@@ -1,12 +1,13 @@
 //! A request that a program serves, and its box.
-ghost use Rattle.std.specs.Prelude.{◌≡◌, Some, true, false, length, map, nat_le, if◌then◌else◌};
+ghost use Rattle.std.specs.Prelude.{◌≡◌, Some, true, false, length, nat_le, if◌then◌else◌};
 ghost use Rattle.j39_frame.specs.Stamp.{stamp_micros};
 ghost use Rattle.j39_node.specs.Is.{request_by};
-ghost use Rattle.j39_application.specs.Answers.{IsLeft, IsMet, aged, lacks, opened, reply};
+ghost use Rattle.j39_application.specs.Answers.{IsLeft, IsMet, lacks, reply};
 ghost use Rattle.j39_node.specs.declared.controller.Controller.{Controller};
 ghost use Rattle.j39_application.specs.Sending.{draft_of};
-ghost use Rattle.j39_application.specs.Boxes.{asked_of, in_box, open_in};
+ghost use Rattle.j39_application.specs.Boxes.{asked_of, open_in};
 
+use crate::kept::Waits;
 use crate::sending::{Outgoing, send};
 use arrayvec::ArrayVec;
 use j39_address::Name;
@@ -85,10 +86,30 @@ impl Asked {
     }
 }
 
-impl Open {
-    /// A box in which nothing was asked.
+impl Waits for Open {
+    ghost use Rattle.std.specs.Option.{is_some};
+    ghost use Rattle.j39_node.specs.declared.controller.Controller.{Controller};
+    ghost use Rattle.j39_application.specs.Answers.{IsMet, Open, aged, opened};
+    ghost use Rattle.j39_application.specs.Boxes.{asked_of, open_in};
+
+    type Start = Asked;
+
+    type End = ();
+
+    ghost Shown = { Open };
+
+    ghost shown = { open_in };
+
+    ghost begun = { λ r. opened (asked_of r) };
+
+    ghost later = { aged };
+
+    ghost time_left = { λ o. o.left };
+
+    ghost Meets = { λ now o after end old new. (after ≡ o) × IsMet now o (is_some end) old new };
+
     #[inline(always)]
-    pub(crate) fn blank() -> Open {
+    fn blank() -> Open {
         Open {
             asked: Asked {
                 source: 0,
@@ -101,22 +122,30 @@ impl Open {
         }
     }
 
-    /// Its next request is this one.
-    pub(crate) fn begin(&mut self, asked: Asked)
-        ensures { open_in self.new ≡ opened (asked_of asked) }
-    {
+    fn begin(&mut self, asked: Asked) {
         self.asked = asked;
         self.answer = None;
         self.left = PATIENCE;
     }
 
-    /// So much time passed, in microseconds.
-    pub(crate) fn pass(&mut self, time: u64)
-        ensures { open_in self.new ≡ aged time (open_in self.old) }
-    {
+    fn pass(&mut self, time: u64) {
         self.left = self.left.saturating_sub(time);
     }
 
+    fn time_left(&self) -> u64 {
+        self.left
+    }
+
+    fn turn(&mut self, controller: &mut Controller, now: Stamp) -> Option<()> {
+        if self.settles(controller, now) {
+            Some(())
+        } else {
+            None
+        }
+    }
+}
+
+impl Open {
     /// Whether it is one of the same source, to the same destination and for the same group, that has no answer.
     pub(crate) fn lacks(&self, asked: Asked) -> bool
         ensures { result ≡ lacks (asked_of asked) (open_in self.now) }
@@ -144,7 +173,7 @@ impl Open {
     /// Hands its answer in, if it has one; where there is no room, and nothing is left of its time, it is refused as busy. True where it is
     /// settled by that.
     #[tactic(auto, using(crate::proofs::AnswerLemmas::stays))]
-    pub(crate) fn turn(&self, controller: &mut Controller, now: Stamp) -> bool
+    fn settles(&self, controller: &mut Controller, now: Stamp) -> bool
         ensures meets { IsMet (stamp_micros now) (open_in self.now) result controller.old controller.new }
     {
         if self.hand_in(controller, now) {
@@ -188,14 +217,5 @@ impl Open {
             Err(Refused::BadValue) => true,
             Err(Refused::Full) => false,
         }
-    }
-}
-
-/// So much time passed for each, in microseconds.
-pub(crate) fn pass_all(current: &mut [Box<Open>], time: u64)
-    ensures { map in_box current.new ≡ map (aged time) (map in_box current.old) }
-{
-    for open in current.iter_mut() {
-        open.pass(time);
     }
 }

@@ -57,6 +57,8 @@ mod sizes;
 #[cfg(test)]
 mod steps;
 #[cfg(test)]
+mod to_a_name;
+#[cfg(test)]
 mod told;
 #[cfg(test)]
 mod transfer_losses;

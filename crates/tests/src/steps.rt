@@ -243,7 +243,7 @@ fn takes(node: &mut Controller, step: &Step) -> Option<bool> {
 }
 
 /// Whether the controller does as the step says; `None` where the step isn't one.
-fn does(node: &mut Controller, step: &Step) -> Option<bool> {
+pub(crate) fn does(node: &mut Controller, step: &Step) -> Option<bool> {
     match step {
         Hears(line) => hear_line(node, line),
         HearsOften(times, line) => hears_often(node, *times, line),

@@ -10,14 +10,14 @@ use Rattle.j39_application.proofs.answers.Answers.answer.Goals as goal
 
 pub returns-in-Some-clause-known : goal.returns-in-Some-clause-known
 returns-in-Some-clause-known c =
-    let items = c.args.self.now.current.items in
+    let items = c.args.self.now.kept.current.items in
     let r = asked_of c.args.asked in
     c.answer.ensures.known
     ∙ and_so (nat_le (length c.args.bytes.now) 1785) _ (sym (any_placed in_box (lacks r) items) ∙ ap is_some (sym c.place_of.ensures ∙ c.in-Some.is))
 
 pub returns-in-Some-clause-keeps : goal.returns-in-Some-clause-keeps
 returns-in-Some-clause-keeps c =
-    let items = c.args.self.now.current.items in
+    let items = c.args.self.now.kept.current.items in
     let at = c.deref_mut.ensures.value ∙ ap (λ b. b.value) c.index_mut.ensures.value in
     keeps in_box (asked_of c.args.asked) c.args.bytes.now c.index_mut.result.now _ items c.in-Some.place (answers_of c.args.self.now) c.answer.result
     (sym c.in-Some.is ∙ c.place_of.ensures) c.answer.ensures.known refl
@@ -25,10 +25,10 @@ returns-in-Some-clause-keeps c =
 
 pub returns-in-None-clause-known : goal.returns-in-None-clause-known
 returns-in-None-clause-known c =
-    let items = c.args.self.now.current.items in
+    let items = c.args.self.now.kept.current.items in
     let r = asked_of c.args.asked in
     and_not (nat_le (length c.args.bytes.now) 1785) _ (sym (any_placed in_box (lacks r) items) ∙ ap is_some (sym c.place_of.ensures ∙ c.in-None.is))
 
 pub returns-in-None-clause-keeps : goal.returns-in-None-clause-keeps
 returns-in-None-clause-keeps c =
-    keeps_none in_box (asked_of c.args.asked) c.args.bytes.now c.args.self.now.current.items (answers_of c.args.self.now) (sym c.in-None.is ∙ c.place_of.ensures) refl
+    keeps_none in_box (asked_of c.args.asked) c.args.bytes.now c.args.self.now.kept.current.items (answers_of c.args.self.now) (sym c.in-None.is ∙ c.place_of.ensures) refl

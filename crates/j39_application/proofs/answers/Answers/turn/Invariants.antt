@@ -8,4 +8,4 @@ use Rattle.j39_application.proofs.answers.Answers.turn.Given as goal
 abbrev pub invariant-loop : goal.invariant-loop
 invariant-loop l =
     IsUnderWay (stamp_micros l.now) l.count l.counter (older (stamp_micros l.now) (answers_of l.fn.self)) (answers_of l.self).requests l.fn.controller l.controller
-    × (l.self.boxes ≡ l.fn.self.boxes) × (l.self.moment ≡ stamp_micros l.now)
+    × (l.self.kept.boxes ≡ l.fn.self.kept.boxes) × (l.self.kept.moment ≡ stamp_micros l.now)

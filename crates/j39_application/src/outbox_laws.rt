@@ -1,0 +1,42 @@
+//! What holds over all that an application sends to NAMEs.
+ghost use Rattle.std.specs.Prelude.{◌≡◌, ◌<◌, ◌+◌, ◌++◌, ◌∷◌, ℕ, Bool, List, Some, Result};
+ghost use Rattle.std.specs.List.{Contains};
+ghost use Rattle.j39_node.specs.History.{Call, Who};
+ghost use Rattle.j39_node.specs.declared.kinds.Refused.{Refused};
+ghost use Rattle.j39_application.specs.Outbox.{Deed, IsTurn, Letter, OutboxRecord, Stands, StandsNowhere, calls, hands_in, turned};
+ghost use Rattle.j39_application.specs.OutboxCourse.{AreTurns, Event, after, example, is_gone, is_handed_in, is_refused, times_among, times_kept, times_settled, times_told, waiting};
+ghost use Rattle.j39_application.specs.declared.letter.Settled.{Settled};
+ghost use Rattle.j39_application.specs.declared.letter.Settled.TheVariants as settled;
+
+/// Each that an outbox accepted was handed in, was refused for good, is gone, or is kept: one of these, once, by its number. As often as
+/// one was settled in a way it was told so, or waits to be told.
+pub fn none_is_lost()
+    ensures once { (boxes : ℕ) (E : List Event) (n : ℕ) → AreTurns boxes E → n < (after boxes E).accepted
+        → times_kept n (after boxes E).letters + (times_settled is_handed_in n E + (times_settled is_refused n E + times_settled is_gone n E)) ≡ 1 }
+    ensures told { (so : Settled → Bool) (boxes : ℕ) (E : List Event) (n : ℕ) → times_settled so n E
+        ≡ times_among so n (after boxes E).settled + times_told so n boxes E }
+{}
+
+/// What a turn hands in goes to an address that its NAME holds then, by the claims that the controller was told till then. What is gone by
+/// it has a NAME that holds none, and nothing is left of its 1,250 ms.
+pub fn each_goes_to_its_name()
+    ensures to { (w : Who) (H : List Call) (now : ℕ) (s : OutboxRecord) (later : List Deed) (d : Deed) (earlier : List Deed) (call : Call)
+        → IsTurn w H now s (later ++ d ∷ earlier) → Contains d.calls call → (a : ℕ) × (answer : Result ℕ Refused)
+        × (call ≡ hands_in now d.letter.errand a answer) × Stands w (calls earlier ++ H) d.letter.name a }
+    ensures gone { (w : Who) (H : List Call) (now : ℕ) (s : OutboxRecord) (later : List Deed) (d : Deed) (earlier : List Deed)
+        → IsTurn w H now s (later ++ d ∷ earlier) → d.settled ≡ Some settled.Gone
+        → StandsNowhere w (calls earlier ++ H) d.letter.name × (d.letter.left ≡ 0) }
+{}
+
+/// Behind a turn none is kept whose 1,250 ms are over: they count from when it was accepted, and anew from a turn at which its NAME held
+/// an address.
+pub fn none_waits_too_long()
+    ensures { (w : Who) (H : List Call) (now : ℕ) (s : OutboxRecord) (ds : List Deed) (o : Letter) → IsTurn w H now s ds
+        → Contains (turned now ds s).letters o → 0 < o.left }
+{}
+
+/// These premises are met: by a request to a NAME that nobody claimed yet.
+pub fn an_example()
+    ensures turns { AreTurns 1 example }
+    ensures kept { ((after 1 example).accepted ≡ 1) × Contains (after 1 example).letters waiting }
+{}

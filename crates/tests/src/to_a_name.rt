@@ -1,0 +1,193 @@
+//! What goes to a NAME: to the address that it holds when it is handed in, or nowhere, if it holds none for 1,250 ms.
+use crate::steps::{self, Step, controller};
+use Post::{Asks, Does, HandsIn, IsDue, Sends, Settles, Turns};
+use Step::{Ends, EndsAsk, Gives, Hears, Ticks};
+use j39_address::Name;
+use j39_application::{Outbox, Settled, Token, Way};
+use j39_frame::{Pgn, Stamp};
+use j39_node::{AskEnding, Controller, Ending, Refused};
+use std::alloc::Global;
+use std::test::Fail;
+
+/// What is done with an outbox, and what it answers. Moments are microseconds.
+enum Post {
+    /// Its controller is told this, and answers so.
+    Does(Step),
+    /// At this moment it takes group 61184 with these bytes, priority 6, for this NAME: its number, or why not.
+    Sends(u64, u64, &'static [u8], Result<u64, Refused>),
+    /// At this moment it is to ask this NAME for group 65259: its number, or why not.
+    Asks(u64, u64, Result<u64, Refused>),
+    /// It has a turn at this moment.
+    Turns(u64),
+    /// It tells that the one of this number was handed in, this way, behind so many.
+    HandsIn(u64, Way, u64),
+    /// It tells this of one that was settled.
+    Settles(Option<(u64, Settled)>),
+    /// The first 1,250 ms are over in so many microseconds.
+    IsDue(Option<u64>),
+}
+
+/// The controller of NAME 2 claims 128, and holds it then.
+const CLAIMS: Post = Does(Gives(
+    0,
+    Some("(0000000000.000000) can0 18EEFF80#0200000000000000"),
+));
+
+const HOLDS: Post = Does(Ticks(250_000));
+
+/// NAME 5 comes to 11 a microsecond before its time is over, moves to 12, and gets what is for it at both; also in packets.
+static COMES_AND_MOVES: &[Post] = &[
+    CLAIMS,
+    HOLDS,
+    Sends(300_000, 5, &[1, 2, 3], Ok(0)),
+    Turns(300_000),
+    IsDue(Some(1_250_000)),
+    Turns(1_549_999),
+    IsDue(Some(1)),
+    Settles(None),
+    Does(Gives(1_549_999, None)),
+    Does(Hears("(1.550000) can0 18EEFF0B#0500000000000000")),
+    Turns(1_550_000),
+    HandsIn(0, Way::Frame, 0),
+    IsDue(None),
+    Does(Gives(1_550_000, Some("(0000000001.550000) can0 18EF0B80#010203"))),
+    Does(Hears("(1.600000) can0 18EEFF0C#0500000000000000")),
+    Sends(1_600_000, 5, &[4], Ok(1)),
+    Sends(1_600_000, 5, &[1, 2, 3, 4, 5, 6, 7, 8, 9], Ok(2)),
+    Turns(1_600_000),
+    HandsIn(1, Way::Frame, 1),
+    HandsIn(2, Way::Transfer, 0),
+    Settles(None),
+    Does(Gives(1_600_000, Some("(0000000001.600000) can0 18EF0C80#04"))),
+    Does(Gives(
+        1_600_000,
+        Some("(0000000001.600000) can0 1CEC0C80#10090002FF00EF00"),
+    )),
+];
+
+/// NAME 9 never comes: one box is full till that is told. A moment that goes back is no time.
+static NEVER_COMES: &[Post] = &[
+    CLAIMS,
+    HOLDS,
+    Sends(300_000, 9, &[1], Ok(0)),
+    Sends(300_000, 9, &[2], Err(Refused::Full)),
+    Turns(200_000),
+    IsDue(Some(1_250_000)),
+    Turns(1_449_999),
+    IsDue(Some(1)),
+    Turns(1_450_000),
+    IsDue(None),
+    Sends(1_450_000, 9, &[2], Err(Refused::Full)),
+    Settles(Some((0, Settled::Gone))),
+    Settles(None),
+    Sends(1_450_000, 9, &[2], Ok(1)),
+    Does(Gives(1_450_000, None)),
+];
+
+/// NAME 5 at 11 is asked twice: the second request waits till the first has ended, which NAME 5's answer does; its 1,250 ms count anew.
+static IS_ASKED: &[Post] = &[
+    CLAIMS,
+    HOLDS,
+    Does(Hears("(0.300000) can0 18EEFF0B#0500000000000000")),
+    Asks(300_000, 5, Ok(0)),
+    Asks(300_000, 5, Ok(1)),
+    Turns(300_000),
+    HandsIn(0, Way::Frame, 0),
+    Settles(None),
+    Turns(1_000_000),
+    IsDue(Some(1_250_000)),
+    Does(Gives(1_000_000, Some("(0000000001.000000) can0 18EA0B80#EBFE00"))),
+    Does(Hears("(1.010000) can0 18FEEB0B#0102030405060708")),
+    Does(EndsAsk(Some((0, AskEnding::Answered)))),
+    Does(Ends(Some((0, Ending::Done)))),
+    Turns(1_020_000),
+    HandsIn(1, Way::Frame, 1),
+    Does(Gives(1_020_000, Some("(0000000001.020000) can0 18EA0B80#EBFE00"))),
+];
+
+/// Before its own address is held the controller refuses it.
+static TOO_EARLY: &[Post] = &[
+    Does(Hears("(0.100000) can0 18EEFF0B#0500000000000000")),
+    Sends(100_000, 5, &[1], Ok(0)),
+    Turns(100_000),
+    Settles(Some((0, Settled::Refused(Refused::NoAddress)))),
+];
+
+/// Whether it does as the step says; `None` where the step isn't one.
+fn does(outbox: &mut Outbox, node: &mut Controller, step: &Post) -> Option<bool> {
+    Some(match step {
+        Does(step) => steps::does(node, step)?,
+        Sends(micros, name, bytes, wanted) => {
+            let name = Name::new(*name);
+            outbox.send(Stamp::new(*micros)?, name, 6, Pgn::new(61_184)?, bytes) == *wanted
+        }
+        Asks(micros, name, wanted) => {
+            outbox.ask(Stamp::new(*micros)?, Name::new(*name), Pgn::new(65_259)?) == *wanted
+        }
+        Turns(micros) => {
+            outbox.turn(node, Stamp::new(*micros)?);
+            true
+        }
+        HandsIn(number, way, token) => {
+            let settled = Settled::HandedIn(Token::new(*way, *token));
+            outbox.take_settled() == Some((*number, settled))
+        }
+        Settles(wanted) => outbox.take_settled() == *wanted,
+        IsDue(wanted) => outbox.due_in() == *wanted,
+    })
+}
+
+/// The place of the first step that an outbox of so many boxes, over a new controller, doesn't take as it says.
+fn wrong_post(alloc: Global, boxes: u8, steps: &[Post]) -> Result<Option<usize>, Fail> {
+    let mut node = controller(alloc, &[])?;
+    let mut outbox = Outbox::new(alloc, boxes)?;
+    for (place, step) in steps.iter().enumerate() {
+        if does(&mut outbox, &mut node, step) != Some(true) {
+            return Ok(Some(place));
+        }
+    }
+    Ok(None)
+}
+
+#[test]
+fn it_goes_where_its_name_is(rt: HostRuntime) -> Result<(), Fail> {
+    assert_eq!(rt; wrong_post(rt.alloc(), 2, COMES_AND_MOVES)?, None);
+    Ok(())
+}
+
+#[test]
+fn it_is_gone_after_a_while(rt: HostRuntime) -> Result<(), Fail> {
+    assert_eq!(rt; wrong_post(rt.alloc(), 1, NEVER_COMES)?, None);
+    Ok(())
+}
+
+#[test]
+fn a_request_waits_for_room(rt: HostRuntime) -> Result<(), Fail> {
+    assert_eq!(rt; wrong_post(rt.alloc(), 2, IS_ASKED)?, None);
+    Ok(())
+}
+
+#[test]
+fn it_is_refused_before_an_address_is_held(rt: HostRuntime) -> Result<(), Fail> {
+    assert_eq!(rt; wrong_post(rt.alloc(), 1, TOO_EARLY)?, None);
+    Ok(())
+}
+
+/// What can never be sent isn't kept: a priority of 8, or 1,786 bytes.
+fn refuses_what_never_goes(alloc: Global) -> Result<Option<bool>, Fail> {
+    let mut outbox = Outbox::new(alloc, 1)?;
+    let (Some(now), Some(group)) = (Stamp::new(0), Pgn::new(61_184)) else {
+        return Ok(None);
+    };
+    let bytes = [0; 1_786];
+    let urgent = outbox.send(now, Name::new(5), 8, group, b"");
+    let long = outbox.send(now, Name::new(5), 7, group, &bytes);
+    let longest = outbox.send(now, Name::new(5), 7, group, &bytes[..1_785]);
+    Ok(Some(urgent == Err(Refused::BadValue) && long == Err(Refused::BadValue) && longest == Ok(0)))
+}
+
+#[test]
+fn what_never_goes_is_refused(rt: HostRuntime) -> Result<(), Fail> {
+    assert_eq!(rt; refuses_what_never_goes(rt.alloc())?, Some(true));
+    Ok(())
+}
