@@ -23,6 +23,7 @@ LIES(j1939_node, 2312);
 LIES(j1939_handle, 16);
 LIES(j1939_ended, 16);
 LIES(j1939_request, 16);
+LIES(j1939_settled, 24);
 _Static_assert(sizeof(j1939_wrong) == 8 && offsetof(j1939_wrong, column) == 4, "j1939_wrong");
 _Static_assert(offsetof(j1939_node, moment) == 16 && offsetof(j1939_node, claims) == 24, "j1939_node");
 
@@ -120,6 +121,13 @@ int32_t j39_answers_take_request(j1939_handle *answers, j1939_handle *controller
 int32_t j39_answers_answer(j1939_handle *answers, const j1939_request *request, const uint8_t *payload, uint64_t size);
 int32_t j39_answers_turn(j1939_handle *answers, j1939_handle *controller, uint64_t micros);
 int32_t j39_answers_due_in(j1939_handle *answers, uint64_t *micros);
+int32_t j39_outbox_new(j1939_handle *outbox, uint8_t boxes);
+int32_t j39_outbox_send(j1939_handle *outbox, uint64_t micros, uint64_t name, uint8_t priority, uint32_t pgn,
+                        const uint8_t *payload, uint64_t size, uint64_t *number);
+int32_t j39_outbox_ask(j1939_handle *outbox, uint64_t micros, uint64_t name, uint32_t pgn, uint64_t *number);
+int32_t j39_outbox_turn(j1939_handle *outbox, j1939_handle *controller, uint64_t micros);
+int32_t j39_outbox_take_settled(j1939_handle *outbox, j1939_settled *settled);
+int32_t j39_outbox_due_in(j1939_handle *outbox, uint64_t *micros);
 
 int32_t j1939_id_split(uint32_t id, j1939_id_fields *fields) {
     return fields ? j39_id_split(id, fields) : J1939_NULL;
@@ -641,4 +649,47 @@ int32_t j1939_answers_due_in(const j1939_answers *answers, uint64_t *micros) {
 
 int32_t j1939_answers_close(j1939_answers *answers) {
     return answers ? close_handle(&answers->handle) : J1939_NULL;
+}
+
+int32_t j1939_outbox_new(j1939_outbox *outbox, uint8_t boxes) {
+    return outbox ? j39_outbox_new(&outbox->handle, boxes) : J1939_NULL;
+}
+
+size_t j1939_outbox_size(uint8_t boxes) {
+    return J1939_OUTBOX_SIZE(boxes);
+}
+
+int32_t j1939_outbox_at(j1939_outbox *outbox, void *memory, size_t size, uint8_t boxes) {
+    if (!outbox || !memory) return J1939_NULL;
+    if (!begin_at(&outbox->handle, memory, size)) return J1939_IN_USE;
+    return end_at(&outbox->handle, j1939_outbox_new(outbox, boxes));
+}
+
+int32_t j1939_outbox_send(j1939_outbox *outbox, uint64_t micros, uint64_t name, uint8_t priority, uint32_t pgn,
+                          const uint8_t *payload, size_t size, uint64_t *number) {
+    return outbox && payload && number
+               ? j39_outbox_send(&outbox->handle, micros, name, priority, pgn, payload, size, number)
+               : J1939_NULL;
+}
+
+int32_t j1939_outbox_ask(j1939_outbox *outbox, uint64_t micros, uint64_t name, uint32_t pgn, uint64_t *number) {
+    return outbox && number ? j39_outbox_ask(&outbox->handle, micros, name, pgn, number) : J1939_NULL;
+}
+
+int32_t j1939_outbox_turn(j1939_outbox *outbox, j1939_controller *controller, uint64_t micros) {
+    return outbox && controller ? j39_outbox_turn(&outbox->handle, &controller->handle, micros) : J1939_NULL;
+}
+
+int32_t j1939_outbox_take_settled(j1939_outbox *outbox, j1939_settled *settled) {
+    return outbox && settled ? j39_outbox_take_settled(&outbox->handle, settled) : J1939_NULL;
+}
+
+int32_t j1939_outbox_due_in(const j1939_outbox *outbox, uint64_t *micros) {
+    if (!outbox || !micros) return J1939_NULL;
+    j1939_handle held = outbox->handle;
+    return j39_outbox_due_in(&held, micros);
+}
+
+int32_t j1939_outbox_close(j1939_outbox *outbox) {
+    return outbox ? close_handle(&outbox->handle) : J1939_NULL;
 }

@@ -20,8 +20,8 @@
  * an acknowledgment or a kept answer out of its range before J1939_NO_PART, and that before all the rest.
  *
  * Storage. j1939_node, j1939_claims, j1939_peers and j1939_broadcast are plain data in your own memory: make them by their .._init.
- * They take no memory besides, need no close, and may be copied. A j1939_controller, j1939_answers, a j1939_listener, a
- * j1939_assembler, a j1939_receiver and a j1939_sender are handles: set one to J1939_EMPTY, open it by its .._new,
+ * They take no memory besides, need no close, and may be copied. A j1939_controller, j1939_answers, a j1939_outbox, a
+ * j1939_listener, a j1939_assembler, a j1939_receiver and a j1939_sender are handles: set one to J1939_EMPTY, open it by its .._new,
  * close it by its .._close. What it holds lies on the heap, or, where it is opened by its .._at in place of .._new, in memory
  * of yours; it is the library's, and a call that takes a const handle changes nothing of it. Frames, messages, readings
  * and texts are your own, and are copied.
@@ -415,6 +415,10 @@ typedef struct {
     j1939_handle handle;
 } j1939_answers;
 
+typedef struct {
+    j1939_handle handle;
+} j1939_outbox;
+
 /** A handle that holds nothing. */
 /* clang-format off */
 #define J1939_EMPTY {{0, 0}}
@@ -423,7 +427,8 @@ typedef struct {
 /* How many bytes .._at wants for each kind of handle, wherever they begin; .._size answers the same of the library that a program is
  * linked with. A listener's and an assembler's have room for so many messages in packets that are open at once, the one handed out
  * last among them, at most 271; a sender's for so many bytes of a message, a controller's for so many broadcasts, sessions and transfers,
- * answers' for so many requests that are open at once. No call with such a handle takes other memory. */
+ * answers' for so many requests that are open at once, an outbox's for so many messages and requests whose end isn't told. No call with
+ * such a handle takes other memory. */
 /* clang-format off */
 #define J1939_LISTENER_SIZE(messages) (6720 + 1824 * (size_t)(messages))
 #define J1939_ASSEMBLER_SIZE(messages) (4416 + 1824 * (size_t)(messages))
@@ -432,6 +437,7 @@ typedef struct {
 #define J1939_CONTROLLER_SIZE(broadcasts, sessions, transfers) \
     (7296 + 1888 * (size_t)(broadcasts) + 3744 * (size_t)(sessions) + 1952 * (size_t)(transfers))
 #define J1939_ANSWERS_SIZE(boxes) (144 + 1864 * (size_t)(boxes))
+#define J1939_OUTBOX_SIZE(boxes) (256 + 1904 * (size_t)(boxes))
 /* clang-format on */
 
 /* ---- a listener (J1939-21, 5.10; J1939-81, 4.2) */
@@ -904,6 +910,73 @@ int32_t j1939_answers_due_in(const j1939_answers *answers, uint64_t *micros);
 /** Closes it: what was open is forgotten. Closing an empty one does nothing.
  * @return 0 */
 int32_t j1939_answers_close(j1939_answers *answers);
+
+/* ---- an outbox: messages and requests to NAMEs (J1939-81, 4.2)
+ *
+ * Where a program knows another by its NAME, this keeps what is for it till that NAME holds an address and the controller has room. Each
+ * is numbered, from 0 on, and how it was settled is told once. The loop:
+ *  - .._send and .._ask, at any time;
+ *  - after j1939_controller_hear, and once .._due_in is over, .._turn;
+ *  - then .._take_settled until it answers 0; each frees a box.
+ *
+ * A handle that holds no outbox, or no controller, is answered by J1939_NO_PART, and then both are as they were. */
+
+/** Opens an outbox with boxes for so many, 0 to 255; none is kept yet. It takes all its memory here, 1.9 kB for each.
+ * @return 0, J1939_NO_MEMORY, J1939_IN_USE */
+int32_t j1939_outbox_new(j1939_outbox *outbox, uint8_t boxes);
+
+/** How many bytes .._at wants for so many boxes. */
+size_t j1939_outbox_size(uint8_t boxes);
+
+/** Opens such an outbox in memory of yours; J1939_NO_MEMORY where it is too small.
+ * @return 0, J1939_NO_MEMORY, J1939_IN_USE */
+int32_t j1939_outbox_at(j1939_outbox *outbox, void *memory, size_t size, uint8_t boxes);
+
+/** Keeps a message of 0 to 1785 bytes for a NAME: 1, and *number, which is how many were accepted before it. The bytes are copied.
+ * J1939_FULL where each box has one whose end .._take_settled hasn't told. J1939_BAD_VALUE for a priority above 7, more bytes, a group of
+ * 2^18 and above or a moment of 10^16 and above; the controller judges a smaller group. In one frame a group of PF 240 and above goes
+ * to all. Where size is 0, payload must not be NULL.
+ * @return 0, 1, J1939_BAD_VALUE, J1939_NO_PART, J1939_FULL */
+int32_t j1939_outbox_send(j1939_outbox *outbox, uint64_t micros, uint64_t name, uint8_t priority, uint32_t pgn,
+                          const uint8_t *payload, size_t size, uint64_t *number);
+
+/** Keeps a request to a NAME for a group (J1939-21, 5.4.2): 1, and its number, as .._send.
+ * @return 0, 1, J1939_BAD_VALUE, J1939_NO_PART, J1939_FULL */
+int32_t j1939_outbox_ask(j1939_outbox *outbox, uint64_t micros, uint64_t name, uint32_t pgn, uint64_t *number);
+
+/** Gives each that is kept its turn, the oldest first. It is handed in, as by j1939_controller_send or .._ask, to the address that its
+ * NAME holds, by the claims that the controller heard and its own that were taken. What finds no room there stays. So does what has a
+ * NAME without address, for 1250 ms, which count anew from each turn at which it holds one.
+ * @return 0, J1939_BAD_VALUE, J1939_NO_PART */
+int32_t j1939_outbox_turn(j1939_outbox *outbox, j1939_controller *controller, uint64_t micros);
+
+/** How one was settled. */
+enum j1939_settlement {
+    J1939_SETTLED_HANDED_IN = 1, /**< it was handed in: the controller tells how it ends */
+    J1939_SETTLED_REFUSED = 2,   /**< the controller refused it for good, as refusal says */
+    J1939_SETTLED_GONE = 3       /**< its NAME held no address for 1250 ms */
+};
+
+/** One that was settled. */
+typedef struct {
+    J1939_ALIGNED uint64_t number; /**< its number */
+    uint64_t token;  /**< of what was handed in the token, as of j1939_controller_send; else 0 */
+    int32_t refusal; /**< of what was refused J1939_NO_ADDRESS, where the controller holds none, or J1939_BAD_VALUE; else 0 */
+} j1939_settled;
+
+/** Takes how the next was settled, each once, in their order: 0 where none is left; J1939_SETTLED_HANDED_IN and so on where it stands in
+ * *settled. Its box is free from then on.
+ * @return 0 to 3, J1939_NO_PART */
+int32_t j1939_outbox_take_settled(j1939_outbox *outbox, j1939_settled *settled);
+
+/** In how many microseconds the first 1250 ms are over, from the last .._turn on, or the last .._send or .._ask that kept one: 1 and the
+ * time, 0 of which is left where they are over; or 0 where none is kept.
+ * @return 0, 1, J1939_NO_PART */
+int32_t j1939_outbox_due_in(const j1939_outbox *outbox, uint64_t *micros);
+
+/** Closes it: what was kept is forgotten. Closing an empty one does nothing.
+ * @return 0 */
+int32_t j1939_outbox_close(j1939_outbox *outbox);
 
 #ifdef __cplusplus
 }

@@ -40,6 +40,7 @@ using Receiver = Handle<j1939_receiver, j1939_receiver_close>;
 using Sender = Handle<j1939_sender, j1939_sender_close>;
 using Controller = Handle<j1939_controller, j1939_controller_close>;
 using Answers = Handle<j1939_answers, j1939_answers_close>;
+using Outbox = Handle<j1939_outbox, j1939_outbox_close>;
 
 } // namespace j1939
 #endif

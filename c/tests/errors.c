@@ -30,6 +30,8 @@ static void null_pointers(void) {
     j1939_sender sender = J1939_EMPTY;
     j1939_controller controller = J1939_EMPTY;
     j1939_answers kept = J1939_EMPTY;
+    j1939_outbox outbox = J1939_EMPTY;
+    j1939_settled settled;
     j1939_setup setup = {.name = 1}, serving = {.served_count = 1}, wanting = {.is_subscribed = 1, .subscribed_count = 1};
     j1939_request request;
     j1939_frame frame = {0};
@@ -130,6 +132,16 @@ static void null_pointers(void) {
     EXPECT(j1939_answers_turn(NULL, &controller, 0) == J1939_NULL);
     EXPECT(j1939_answers_due_in(&kept, NULL) == J1939_NULL);
     EXPECT(j1939_answers_close(NULL) == J1939_NULL);
+    EXPECT(j1939_outbox_new(NULL, 1) == J1939_NULL);
+    EXPECT(j1939_outbox_at(&outbox, NULL, 0, 1) == J1939_NULL);
+    EXPECT(j1939_outbox_send(&outbox, 0, 1, 6, 61184, NULL, 0, &name) == J1939_NULL);
+    EXPECT(j1939_outbox_send(&outbox, 0, 1, 6, 61184, payload, 1, NULL) == J1939_NULL);
+    EXPECT(j1939_outbox_ask(&outbox, 0, 1, 65260, NULL) == J1939_NULL);
+    EXPECT(j1939_outbox_turn(&outbox, NULL, 0) == J1939_NULL);
+    EXPECT(j1939_outbox_take_settled(NULL, &settled) == J1939_NULL);
+    EXPECT(j1939_outbox_take_settled(&outbox, NULL) == J1939_NULL);
+    EXPECT(j1939_outbox_due_in(&outbox, NULL) == J1939_NULL);
+    EXPECT(j1939_outbox_close(NULL) == J1939_NULL);
 }
 
 static void fields(void) {
@@ -945,6 +957,7 @@ static void const_handles(void) {
     static const j1939_sender sender = J1939_EMPTY;
     static const j1939_controller controller = J1939_EMPTY;
     static const j1939_answers kept = J1939_EMPTY;
+    static const j1939_outbox outbox = J1939_EMPTY;
     uint64_t number;
     uint8_t byte;
     EXPECT(j1939_listener_holder(&listener, 0, &number) == J1939_NO_PART);
@@ -962,6 +975,7 @@ static void const_handles(void) {
     EXPECT(j1939_peers_heard_since(&peers, &controller, 1, 0) == J1939_NO_PART);
     EXPECT(j1939_controller_missed(&controller, &number) == J1939_NO_PART);
     EXPECT(j1939_answers_due_in(&kept, &number) == J1939_NO_PART);
+    EXPECT(j1939_outbox_due_in(&outbox, &number) == J1939_NO_PART);
 }
 
 /* What is told next: at this address this NAME was told last, and that one holds it now; 0 for nobody. */
@@ -1109,6 +1123,130 @@ static void kept_answers(void) {
     EXPECT(j1939_controller_close(&controller) == 0 && j1939_listener_close(&foreign) == 0);
 }
 
+/* Each call with a pair of handles of which one holds another part, or none: what the other holds stays. */
+static void no_outbox(j1939_outbox *outbox, j1939_controller *controller) {
+    EXPECT(j1939_outbox_turn(outbox, controller, 1) == J1939_NO_PART);
+    EXPECT(j1939_outbox_turn(outbox, controller, LATE) == J1939_BAD_VALUE);
+}
+
+/* Each call with a handle that holds no outbox. */
+static void not_an_outbox(j1939_outbox *outbox) {
+    j1939_settled settled = {.number = 7};
+    uint64_t number = 7;
+    EXPECT(j1939_outbox_send(outbox, 1, 9, 8, 61184, payload, 1786, &number) == J1939_NO_PART && number == 7);
+    EXPECT(j1939_outbox_send(outbox, LATE, 9, 6, 61184, payload, 3, &number) == J1939_BAD_VALUE && number == 7);
+    EXPECT(j1939_outbox_ask(outbox, 1, 9, 65260, &number) == J1939_NO_PART && number == 7);
+    EXPECT(j1939_outbox_ask(outbox, 1, 9, 1u << 18, &number) == J1939_BAD_VALUE && number == 7);
+    EXPECT(j1939_outbox_take_settled(outbox, &settled) == J1939_NO_PART && settled.number == 7);
+    EXPECT(j1939_outbox_due_in(outbox, &number) == J1939_NO_PART && number == 7);
+}
+
+static int has_time(const j1939_outbox *outbox, uint64_t time) {
+    uint64_t left = 0;
+    return j1939_outbox_due_in(outbox, &left) == 1 && left == time;
+}
+
+/* The next that is told has this number, and was settled so. */
+static int is_settled(j1939_outbox *outbox, int32_t how, uint64_t number, uint64_t token, int32_t refusal) {
+    j1939_settled settled = {.number = 7, .token = 7, .refusal = 7};
+    return j1939_outbox_take_settled(outbox, &settled) == how && settled.number == number && settled.token == token &&
+           settled.refusal == refusal;
+}
+
+static int is_ended(j1939_controller *controller, int32_t kind, uint64_t token, uint8_t ending) {
+    j1939_ended ended;
+    return j1939_controller_take_ended(controller, &ended) == kind && ended.token == token && ended.ending == ending;
+}
+
+/* NAME 9, which is arbitrary address capable, claims an address. */
+static void comes(j1939_controller *controller, uint8_t address, uint64_t now) {
+    j1939_frame claim = {.id = 0x18EEFF00u | address, .len = 8, .data = {9, 0, 0, 0, 0, 0, 0, 0x80}};
+    EXPECT(j1939_controller_hear(controller, &claim, now) == 0);
+}
+
+static const uint64_t OTHER = 0x8000000000000009u;
+
+/* A message, and a request, wait for a NAME that comes 1,249,999 us later; what doesn't fit the boxes or a frame's fields is refused. */
+static void handed_in(j1939_outbox *outbox, j1939_controller *controller) {
+    uint64_t number = 7;
+    EXPECT(j1939_outbox_due_in(outbox, &number) == 0 && is_settled(outbox, 0, 7, 7, 7) && number == 7);
+    EXPECT(j1939_outbox_send(outbox, 300000, OTHER, 8, 61184, payload, 3, &number) == J1939_BAD_VALUE && number == 7);
+    EXPECT(j1939_outbox_send(outbox, 300000, OTHER, 6, 61184, payload, 1786, &number) == J1939_BAD_VALUE);
+    EXPECT(j1939_outbox_send(outbox, 300000, OTHER, 6, 1u << 18, payload, 3, &number) == J1939_BAD_VALUE && number == 7);
+    EXPECT(j1939_outbox_send(outbox, 300000, OTHER, 5, 61184, payload, 8, &number) == 1 && number == 0);
+    EXPECT(j1939_outbox_ask(outbox, 300000, OTHER, 65260, &number) == 1 && number == 1);
+    EXPECT(j1939_outbox_ask(outbox, 300000, OTHER, 65259, &number) == J1939_FULL && number == 1);
+    EXPECT(j1939_outbox_turn(outbox, controller, 1549999) == 0 && has_time(outbox, 1));
+    EXPECT(is_settled(outbox, 0, 7, 7, 7) && taken(controller, 1549999) == 0);
+    comes(controller, 0x0B, 1549999);
+    EXPECT(j1939_outbox_turn(outbox, controller, 1550000) == 0 && j1939_outbox_due_in(outbox, &number) == 0);
+    EXPECT(j1939_outbox_ask(outbox, 1550000, OTHER, 65259, &number) == J1939_FULL); /* no end was told */
+    EXPECT(is_settled(outbox, J1939_SETTLED_HANDED_IN, 0, 0, 0) && is_settled(outbox, J1939_SETTLED_HANDED_IN, 1, 4, 0));
+    EXPECT(is_settled(outbox, 0, 7, 7, 7));
+    EXPECT(goes(controller, 1550000, 0x14EF0B80, payload) && taken(controller, 1550000) == 0x18EA0B80);
+    EXPECT(out.len == 3 && out.data[0] == 0xEC && out.data[1] == 0xFE && out.data[2] == 0);
+    EXPECT(is_ended(controller, J1939_ENDED_MESSAGE, 0, J1939_ENDED_DONE));
+    EXPECT(is_ended(controller, J1939_ENDED_MESSAGE, 4, J1939_ENDED_DONE));
+}
+
+/* In packets to the address where it is now, under the token of a transfer; there is room for one, and the next stays till it ended. */
+static void handed_in_later(j1939_outbox *outbox, j1939_controller *controller) {
+    static const uint8_t rts[8] = {0x10, 18, 0, 3, 0xFF, 0x00, 0xEF, 0}, abort[8] = {0xFF, 2, 0xFF, 0xFF, 0xFF, 0x00, 0xEF, 0};
+    j1939_frame refusal = {.id = 0x1CEC800C, .len = 8};
+    uint64_t number;
+    comes(controller, 0x0C, 1600000);
+    EXPECT(j1939_outbox_send(outbox, 1600000, OTHER, 6, 61184, payload, 18, &number) == 1 && number == 2);
+    EXPECT(j1939_outbox_send(outbox, 1600000, OTHER, 6, 61184, payload, 9, &number) == 1 && number == 3);
+    EXPECT(j1939_outbox_turn(outbox, controller, 1600000) == 0 && has_time(outbox, 1250000));
+    EXPECT(is_settled(outbox, J1939_SETTLED_HANDED_IN, 2, 2, 0) && is_settled(outbox, 0, 7, 7, 7));
+    EXPECT(goes(controller, 1600000, 0x1CEC0C80, rts));
+    memcpy(refusal.data, abort, sizeof abort);
+    EXPECT(j1939_controller_hear(controller, &refusal, 1600000) == 0);
+    EXPECT(j1939_outbox_turn(outbox, controller, 1600000) == 0 && is_settled(outbox, 0, 7, 7, 7));
+    EXPECT(is_ended(controller, J1939_ENDED_TRANSFER, 2, J1939_ENDED_FAILED));
+    EXPECT(j1939_outbox_turn(outbox, controller, 1600000) == 0 && is_settled(outbox, J1939_SETTLED_HANDED_IN, 3, 6, 0));
+}
+
+/* One for a NAME that never comes is gone after 1,250 ms; what no identifier can be to an address is refused for good. */
+static void gone_and_refused(j1939_outbox *outbox, j1939_controller *controller) {
+    uint64_t number;
+    EXPECT(j1939_outbox_send(outbox, 1700000, 77, 6, 61184, payload, 3, &number) == 1 && number == 4);
+    EXPECT(j1939_outbox_send(outbox, 1700000, OTHER, 6, 60928, payload, 8, &number) == 1 && number == 5);
+    EXPECT(j1939_outbox_turn(outbox, controller, 2949999) == 0 && has_time(outbox, 1));
+    EXPECT(is_settled(outbox, J1939_SETTLED_REFUSED, 5, 0, J1939_BAD_VALUE) && is_settled(outbox, 0, 7, 7, 7));
+    EXPECT(j1939_outbox_turn(outbox, controller, 2950000) == 0 && j1939_outbox_due_in(outbox, &number) == 0);
+    EXPECT(is_settled(outbox, J1939_SETTLED_GONE, 4, 0, 0) && is_settled(outbox, 0, 7, 7, 7));
+    EXPECT(j1939_controller_again(controller, 3000000) == 0 && taken(controller, 3000000) == 0x18EEFF80);
+    EXPECT(j1939_outbox_ask(outbox, 3000000, OTHER, 65260, &number) == 1 && number == 6);
+    EXPECT(j1939_outbox_turn(outbox, controller, 3000000) == 0);
+    EXPECT(is_settled(outbox, J1939_SETTLED_REFUSED, 6, 0, J1939_NO_ADDRESS));
+}
+
+static void outboxes(void) {
+    j1939_setup setup = {.name = 1, .address = 0x80, .transfers = 1};
+    j1939_controller controller = J1939_EMPTY, no_controller = J1939_EMPTY;
+    j1939_outbox outbox = J1939_EMPTY;
+    j1939_listener foreign = J1939_EMPTY;
+    EXPECT(j1939_controller_new(&controller, &setup) == 0 && j1939_listener_new(&foreign) == 0);
+    EXPECT(taken(&controller, 0) == 0x18EEFF80 && j1939_controller_tick(&controller, 250000) == 0);
+    not_an_outbox(&outbox), not_an_outbox((j1939_outbox *)&foreign);
+    no_outbox(&outbox, &controller), no_outbox((j1939_outbox *)&foreign, &controller);
+    for (long granted = 0; granted < 7; granted++) {
+        allowed = granted;
+        EXPECT(j1939_outbox_new(&outbox, 2) == J1939_NO_MEMORY && !outbox.handle.part);
+    }
+    allowed = 7;
+    EXPECT(j1939_outbox_new(&outbox, 2) == 0 && j1939_outbox_new(&outbox, 2) == J1939_IN_USE);
+    no_outbox(&outbox, &no_controller), no_outbox(&outbox, (j1939_controller *)&foreign);
+    EXPECT(allowed == 0); /* from here on it takes no memory */
+    handed_in(&outbox, &controller);
+    handed_in_later(&outbox, &controller);
+    gone_and_refused(&outbox, &controller);
+    allowed = -1;
+    EXPECT(j1939_outbox_close(&outbox) == 0 && j1939_outbox_close(&outbox) == 0);
+    EXPECT(j1939_controller_close(&controller) == 0 && j1939_listener_close(&foreign) == 0);
+}
+
 int main(void) {
     null_pointers();
     fields();
@@ -1127,6 +1265,7 @@ int main(void) {
     peers_of();
     subscribed();
     kept_answers();
+    outboxes();
     const_handles();
     return 0;
 }

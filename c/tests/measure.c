@@ -23,6 +23,7 @@ static j1939_receiver receiver = J1939_EMPTY;
 static j1939_sender sender = J1939_EMPTY;
 static j1939_controller controller = J1939_EMPTY;
 static j1939_answers answers = J1939_EMPTY;
+static j1939_outbox outbox = J1939_EMPTY;
 static j1939_node node;
 static j1939_frame out;
 static const j1939_frame engine = {
@@ -154,10 +155,16 @@ static void measure(const char *name, void (*call)(void), long times) {
     putchar('\n');
 }
 
-/* How much memory answers with so many boxes take. */
+/* How much memory answers with so many boxes take, and an outbox. */
 static unsigned answers_of(uint8_t boxes) {
     size_t before = taken;
     EXPECT(j1939_answers_new(&answers, boxes) == 0 && j1939_answers_close(&answers) == 0);
+    return (unsigned)(taken - before);
+}
+
+static unsigned outbox_of(uint8_t boxes) {
+    size_t before = taken;
+    EXPECT(j1939_outbox_new(&outbox, boxes) == 0 && j1939_outbox_close(&outbox) == 0);
     return (unsigned)(taken - before);
 }
 
@@ -215,6 +222,7 @@ int main(void) {
     measure("sender_close", close_sender, 0);
     measure("controller_close", close_controller, 0);
     printf("answers with no box %u, with ten %u bytes\n", answers_of(0), answers_of(10));
+    printf("an outbox with no box %u, with ten %u bytes\n", outbox_of(0), outbox_of(10));
     measure_answers();
     return 0;
 }

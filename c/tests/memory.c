@@ -60,6 +60,15 @@ static int32_t open_answers(void *memory, size_t size) {
     return answer;
 }
 
+static int32_t open_outbox(void *memory, size_t size) {
+    j1939_outbox outbox = J1939_EMPTY;
+    uint64_t time;
+    int32_t answer = j1939_outbox_at(&outbox, memory, size, boxes);
+    EXPECT(answer ? !outbox.handle.part && !outbox.handle.memory : j1939_outbox_due_in(&outbox, &time) == 0);
+    EXPECT(j1939_outbox_close(&outbox) == 0 && !outbox.handle.memory);
+    return answer;
+}
+
 /* It is opened in so many bytes, behind so many of a word. */
 static int is_enough(int32_t (*open)(void *, size_t), size_t skipped, size_t size) {
     uint8_t *memory = around + 8 + skipped;
@@ -114,8 +123,9 @@ static void sizes(void) {
         setup.sessions = 0, setup.transfers = boxes;
         wants(open_controller, j1939_controller_size(&setup));
         wants(open_answers, j1939_answers_size(boxes));
+        wants(open_outbox, j1939_outbox_size(boxes));
     }
-    boxes = 2, refuses(open_answers, j1939_answers_size(2));
+    boxes = 2, refuses(open_answers, j1939_answers_size(2)), refuses(open_outbox, j1939_outbox_size(2));
     setup.broadcasts = 2, setup.sessions = 2, setup.transfers = 2, refuses(open_controller, j1939_controller_size(&setup));
     EXPECT(j1939_listener_size(2) == J1939_LISTENER_SIZE(2) && j1939_listener_size(1000) == J1939_LISTENER_SIZE(271));
     EXPECT(j1939_controller_size(NULL) == 0);

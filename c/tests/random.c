@@ -56,6 +56,7 @@ static j1939_receiver receivers[PARTS];
 static j1939_sender senders[PARTS];
 static j1939_controller controllers[PARTS];
 static j1939_answers answers[PARTS];
+static j1939_outbox outboxes[PARTS];
 static j1939_node nodes[PARTS];
 static j1939_claims claims[PARTS];
 static j1939_broadcast broadcasts[PARTS];
@@ -283,6 +284,32 @@ static void call_answers(j1939_answers *kept, j1939_controller *controller) {
     }
 }
 
+/* An outbox with a controller, or with a handle of another kind. */
+static void call_outbox(j1939_outbox *outbox, j1939_controller *controller) {
+    static uint8_t payload[1800];
+    static const uint32_t groups[] = {61184, 61444, 65260, 60928};
+    j1939_settled settled = {0};
+    size_t size = (size_t)(next() % 64 ? next() % 30 : next() % sizeof payload);
+    uint64_t name = next() % 4, number = 0;
+    uint8_t priority = (uint8_t)(next() % 9);
+    payload[next() % sizeof payload] = (uint8_t)size;
+    switch (next() % 8) {
+    case 0: answered(j1939_outbox_new(outbox, (uint8_t)(next() % 4)), J1939_IN_USE, 0); break;
+    case 1:
+        if (next() % 256 == 0) answered(j1939_outbox_close(outbox), 0, 0);
+        break;
+    case 2: answered(j1939_outbox_due_in(outbox, &number), J1939_NO_PART, 1), mix(number); break;
+    case 3: told(j1939_outbox_send(outbox, now, name, priority, groups[next() % 4], payload, size, &number), &number); break;
+    case 4: told(j1939_outbox_ask(outbox, now, name, 65260, &number), &number); break;
+    case 5:
+        answered(j1939_outbox_take_settled(outbox, &settled), J1939_NO_PART, J1939_SETTLED_GONE);
+        mix(settled.number), mix(settled.token), mix((uint64_t)(int64_t)settled.refusal);
+        break;
+    case 6: answered(j1939_outbox_turn(outbox, (j1939_controller *)&receivers[0], now), J1939_NO_PART, J1939_BAD_VALUE); break;
+    default: answered(j1939_outbox_turn(outbox, controller, now), J1939_NO_PART, 0);
+    }
+}
+
 /* A message of a group of the table, or of any length, and what is read in it. */
 static void read_message(void) {
     static const uint32_t groups[] = {61443, 61444, 65226, 65253, 65260, 65262, 65265};
@@ -355,6 +382,7 @@ int main(int argc, char **argv) {
         case 0: call_plain(i, address); break;
         case 1: case 2: call_controller(&controllers[i], address); break;
         case 3: call_answers(&answers[i], &controllers[i]); break;
+        case 4: call_outbox(&outboxes[i], &controllers[i]); break;
         default: call_handles(i, address);
         }
     }
@@ -362,6 +390,7 @@ int main(int argc, char **argv) {
     for (size_t i = 0; i < PARTS; i++) {
         EXPECT(j1939_listener_close(&listeners[i]) == 0 && j1939_receiver_close(&receivers[i]) == 0);
         EXPECT(j1939_assembler_close(&assemblers[i]) == 0 && j1939_answers_close(&answers[i]) == 0);
+        EXPECT(j1939_outbox_close(&outboxes[i]) == 0);
         EXPECT(j1939_sender_close(&senders[i]) == 0 && j1939_controller_close(&controllers[i]) == 0);
     }
     printf("%08lx%08lx\n", (unsigned long)(sum >> 32), (unsigned long)(sum & 0xFFFFFFFF));

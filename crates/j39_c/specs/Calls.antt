@@ -31,6 +31,16 @@ pub record Asks {H P : Type 0} (part_in : H → Option P) (fits : Type 0) (old :
   -- a value is out of its range: the handle is as it was
   pub bad : (fits → ⊥) → (code ≡ bad_value) × (new ≡ old)
 
+-- a call that the part of a handle answers, also by a refusal: `does` says what becomes of the part by that answer
+pub record Tries {P : Type 0} (part_in : Option Part → Option P) (fits : Type 0) (old : Option Part) (code : ℤ)
+    (new : Option Part) (does : P → P → Type 0) : Type 0 where
+  -- the part answered
+  pub done : fits → IfSome (part_in old) (λ o. IsSomeAnd (part_in new) (λ n. does o n))
+  -- the handle holds no such part: it is as it was
+  pub foreign : fits → part_in old ≡ None → (code ≡ no_part) × (new ≡ old)
+  -- a value is out of its range: the handle is as it was
+  pub bad : (fits → ⊥) → (code ≡ bad_value) × (new ≡ old)
+
 -- for a call that never wants memory
 abbrev pub Never : {P : Type 0} → P → Type 0
 Never part = ⊥

@@ -1,5 +1,5 @@
 -- What a controller answers to C, by the histories of its calls.
-use Rattle.std.specs.Prelude.{◌≡◌, ◌<◌, ◌≤◌, ◌^◌, ◌+◌, ◌%◌, ◌/◌, min, ◌∷◌, ◌++◌, [], ℕ, zero, suc, ℤ, pos, negsuc, ◌==◌, nat_eq, nat_lt, Bool, true, false, Option, Some, None, IfSome, IsSomeAnd, Result, Ok, Err, List, length, if◌then◌else◌, slice_get}
+use Rattle.std.specs.Prelude.{◌≡◌, ◌<◌, ◌≤◌, ◌^◌, ◌+◌, ◌%◌, ◌/◌, min, ◌∷◌, ◌++◌, [], ℕ, zero, suc, ℤ, pos, negsuc, ◌==◌, nat_eq, nat_lt, Bool, true, false, Option, Some, None, IfSome, Result, Ok, Err, List, length, if◌then◌else◌, slice_get}
 use Rattle.std.specs.Option.{option_map}
 use Rattle.std.specs.List.{list_all}
 use Rattle.j39_address.specs.Claim.{claims_of}
@@ -31,8 +31,9 @@ use Rattle.j39_application.specs.declared.sending.End.{End}
 use Rattle.j39_application.specs.declared.sending.End.TheVariants as end
 use Rattle.j39_application.specs.declared.sending.Token.{Token}
 use Rattle.j39_application.specs.declared.sending.Way.{Way}
+use Rattle.j39_c.specs.Calls.{Tries}
 use Rattle.j39_c.specs.declared.controller.PlainSetup.{PlainSetup}
-use Rattle.j39_c.specs.Codes.{bad_value, full, no_address, no_part}
+use Rattle.j39_c.specs.Codes.{bad_value, full, no_address}
 use Rattle.j39_c.specs.Messages.{hearing_in, marked}
 use Rattle.j39_c.specs.Parts.{controller_in}
 use Rattle.j39_c.specs.declared.handed_out.PlainEnded.{PlainEnded}
@@ -156,17 +157,12 @@ abbrev pub IsTaken : ℤ → Result (Unit {0}) Refused → Type 0
 IsTaken code (Ok t) = code ≡ pos 0
 IsTaken code (Err why) = IsRefusal why code
 
--- a call that hands something to the controller of a handle, which holds `old` before it and `new` after it: `fits` says that the
--- values it is given are in range, `is_told` which answer of the controller it tells
-pub record Offers {A : Type 0} (fits : Type 0) (old : Option Part) (code : ℤ) (new : Option Part)
-    (micros : ℕ) (act : Result A Refused → Act) (is_told : Result A Refused → Type 0) : Type 0 where
-  -- the history goes on by the call, with its answer
-  pub done : fits → IfSome (controller_in old) (λ o. (answer : Result A Refused) × is_told answer
-      × IsSomeAnd (controller_in new) (λ n. Continues (At micros (act answer)) o n))
-  -- the handle holds no controller: it is as it was
-  pub foreign : fits → controller_in old ≡ None → (code ≡ no_part) × (new ≡ old)
-  -- a value is out of its range: the handle is as it was
-  pub bad : (fits → ⊥) → (code ≡ bad_value) × (new ≡ old)
+-- a call that hands something to the controller of a handle, which holds `old` before it and `new` after it: the history goes on by the
+-- call with its answer; `fits` says that the values it is given are in range, `is_told` which answer of the controller it tells
+abbrev pub Offers : {A : Type 0} → Type 0 → Option Part → ℤ → Option Part → ℕ → (Result A Refused → Act)
+    → (Result A Refused → Type 0) → Type 0
+Offers {A = A} fits old code new micros act is_told = Tries controller_in fits old code new
+    (λ o n. (answer : Result A Refused) × is_told answer × Continues (At micros (act answer)) o n)
 
 -- ---- requests
 

@@ -12,6 +12,7 @@ pub mod Holders
 pub mod KeptAnswers
 pub mod Messages
 pub mod Nodes
+pub mod Outboxes
 pub mod OwnTables
 pub mod Parts
 pub mod Peers

@@ -1,5 +1,5 @@
 -- Tables of one's own, as C has them: their text.
-use Rattle.std.specs.Prelude.{◌≡◌, ◌+◌, ℕ}
+use Rattle.std.specs.Prelude.{◌≡◌, ◌+◌}
 use Rattle.j39_table.specs.Faults.{column_of}
 use Rattle.j39_table.specs.declared.fault.TableFault.{TableFault}
 use Rattle.j39_table.specs.declared.fault.TableFault.TheVariants.{Line, Name, TooManyRows, TooLong, Memory}

@@ -27,52 +27,51 @@ use Rattle.j39_c.specs.declared.message.WholeMessage.{WholeMessage}
 use Rattle.j39_c.specs.declared.part.Part.{Part}
 use Rattle.j39_c.specs.declared.refusal.Refusal.{Refusal}
 use Rattle.j39_c.specs.declared.refusal.Refusal.TheVariants.{BadValue, NoPart, NoMemory, InUse, NoRoom, End, NoAddress, Full}
-use Rattle.j39_c.specs.declared.part.Part.TheVariants.{Listening, Receiving, Sending, Assembling, Controlling, Answering}
+use Rattle.j39_c.specs.declared.part.Part.TheVariants.{Listening, Receiving, Sending, Assembling, Controlling, Answering, Posting}
 use Rattle.j39_listen.specs.declared.listener.Listener as heard
 use Rattle.j39_node.specs.declared.controller.Controller.{Controller}
 use Rattle.j39_application.specs.declared.answers.Answers.{Answers}
+use Rattle.j39_application.specs.declared.outbox.Outbox.{Outbox}
 
--- what a handle's part gives, by its kind
-abbrev by_kind : {T : Type 0} → (heard.Listener → Option T) → (BoxedReceiver → Option T) → (SenderRecord → Option T)
-    → (AssemblerRecord → Option T) → (Controller → Option T) → (Answers → Option T) → Option Part → Option T
-by_kind listener receiver sender assembler controller answers None = None
-by_kind listener receiver sender assembler controller answers (Some (Listening b)) = listener b.part.value
-by_kind listener receiver sender assembler controller answers (Some (Receiving b)) = receiver b.value
-by_kind listener receiver sender assembler controller answers (Some (Sending b)) = sender b.value
-by_kind listener receiver sender assembler controller answers (Some (Assembling b)) = assembler b.part.value
-by_kind listener receiver sender assembler controller answers (Some (Controlling b)) = controller b.value
-by_kind listener receiver sender assembler controller answers (Some (Answering b)) = answers b.value
-
-abbrev no : {P T : Type 0} → P → Option T
-no part = None
-
--- the listener that a handle holds; the receiver; the sender; the assembler; the controller; the answers
+-- the listener that a handle holds; the receiver; the sender; the assembler; the controller; the answers; the outbox
 abbrev pub listener_in : Option Part → Option heard.Listener
-listener_in part = by_kind Some no no no no no part
+listener_in (Some (Listening b)) = Some b.part.value
+listener_in other = None
 
 abbrev pub receiver_in : Option Part → Option BoxedReceiver
-receiver_in part = by_kind no Some no no no no part
+receiver_in (Some (Receiving b)) = Some b.value
+receiver_in other = None
 
 abbrev pub sender_in : Option Part → Option SenderRecord
-sender_in part = by_kind no no Some no no no part
+sender_in (Some (Sending b)) = Some b.value
+sender_in other = None
 
 abbrev pub assembler_in : Option Part → Option AssemblerRecord
-assembler_in part = by_kind no no no Some no no part
+assembler_in (Some (Assembling b)) = Some b.part.value
+assembler_in other = None
 
 abbrev pub controller_in : Option Part → Option Controller
-controller_in part = by_kind no no no no Some no part
+controller_in (Some (Controlling b)) = Some b.value
+controller_in other = None
 
 abbrev pub answers_in : Option Part → Option Answers
-answers_in part = by_kind no no no no no Some part
+answers_in (Some (Answering b)) = Some b.value
+answers_in other = None
 
--- the answers of one handle, with the controller of another
+abbrev pub outbox_in : Option Part → Option Outbox
+outbox_in (Some (Posting b)) = Some b.value
+outbox_in other = None
+
+-- the answers, or the outbox, of one handle, with the controller of another
 abbrev both : {A B : Type 0} → Option A → Option B → Option (A × B)
-both None b = None
-both (Some a) None = None
 both (Some a) (Some b) = Some (a, b)
+both a b = None
 
 abbrev pub answering_in : Option Part × Option Part → Option (Answers × Controller)
 answering_in parts = both (answers_in parts.0) (controller_in parts.1)
+
+abbrev pub posting_in : Option Part × Option Part → Option (Outbox × Controller)
+posting_in parts = both (outbox_in parts.0) (controller_in parts.1)
 
 -- ---- listeners
 

@@ -1,5 +1,5 @@
 -- What a program in C is told of who is there.
-use Rattle.std.specs.Prelude.{◌≡◌, ◌↔◌, ◌∷◌, ℕ, zero, suc, ℤ, pos, negsuc, Option, Some, None, List}
+use Rattle.std.specs.Prelude.{◌≡◌, ◌∷◌, ℕ, zero, suc, ℤ, pos, negsuc, List}
 use Rattle.j39_address.specs.Claim.{claims_of}
 use Rattle.j39_application.specs.Peers.{HeardSince, IsToldNext, Knows, NoneIsNew, Seen, Told}
 use Rattle.j39_application.specs.declared.peers.Peers.{Peers}

@@ -9,6 +9,7 @@ ghost use Rattle.j39_c.specs.Messages.{message_in};
 ghost use Rattle.j39_c.specs.Parts.{assembler_in};
 
 use crate::can::{CanFrame, frame_in};
+use crate::emptied::Emptied;
 use crate::handle::Handle;
 use crate::message::WholeMessage;
 use crate::part::{ask, open};
@@ -23,7 +24,11 @@ pub extern "C" fn j39_assembler_new(alloc: Global, assembler: &mut Handle) -> i3
     ensures opens { Opens assembler_in ⊤ assembler.old.part result assembler.new.part (λ made. Stands [] made) }
     ensures answers { Answers 0 (no_memory ∷ in_use ∷ []) result }
 {
-    open!(alloc, assembler, Assembling(Assembler::new(alloc)))
+    open!(
+        alloc,
+        assembler,
+        Assembling(Emptied::new(alloc, Assembler::new(alloc)))
+    )
 }
 
 /// Feeds an assembler the next frame of the bus: 1 where a message is whole with it, which is in `out` then, of no NAME,

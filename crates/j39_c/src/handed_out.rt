@@ -126,7 +126,7 @@ pub(crate) fn taken(answer: Result<(), Refused>) -> i32
 }
 
 /// Why nothing was accepted, as a number.
-fn refused(why: Refused) -> i32
+pub(crate) fn refused(why: Refused) -> i32
     ensures told { IsRefusal why result }
     ensures answers { Answers 0 (bad_value ∷ no_address ∷ full ∷ []) result }
 {

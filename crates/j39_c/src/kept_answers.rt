@@ -1,5 +1,5 @@
 //! Answers that are kept till they are handed in, or refused as busy (J1939-21, 5.4.2 and 5.4.4).
-ghost use Rattle.std.specs.Prelude.{⊤, ◌≡◌, ◌<◌, ◌^◌, ◌∷◌, [], pos};
+ghost use Rattle.std.specs.Prelude.{⊤, ◌≡◌, ◌<◌, ◌^◌, ◌∷◌, [], IfOk, pos};
 ghost use Rattle.j39_frame.specs.Stamp.{stamp_micros};
 ghost use Rattle.j39_node.specs.Is.{request_by};
 ghost use Rattle.j39_application.specs.Answers.{none_in, soonest};
@@ -13,13 +13,13 @@ ghost use Rattle.j39_c.specs.Parts.{answering_in, answers_in};
 
 use crate::handed_out::{PlainRequest, put, put_request, request_of};
 use crate::handle::Handle;
-use crate::part::{Part, ask};
+use crate::part::{ask, open, turn};
 use crate::refusal::Refusal;
 use j39_application::{Answers as Kept, Asked};
 use j39_frame::Stamp;
 use j39_node::{Controller, Request};
 use j39_transport::LONGEST;
-use std::alloc::Global;
+use std::alloc::{AllocError, Global};
 
 /// Opens answers with room for so many open requests, none of which is there: 0; -3 where memory is refused, -4 where the handle is
 /// open.
@@ -28,16 +28,7 @@ pub extern "C" fn j39_answers_new(alloc: Global, kept: &mut Handle, boxes: u8) -
     ensures opens { Opens answers_in ⊤ kept.old.part result kept.new.part (λ made. answers_of made ≡ none_in boxes) }
     ensures answers { Answers 0 (no_memory ∷ in_use ∷ []) result }
 {
-    if kept.is_open(alloc) {
-        return Refusal::InUse.code();
-    }
-    let Ok(made) = Kept::new(alloc, boxes) else {
-        return Refusal::NoMemory.code();
-    };
-    let Ok(made) = Box::new(alloc, made) else {
-        return Refusal::NoMemory.code();
-    };
-    kept.put_new(alloc, Part::Answering(made))
+    open!(alloc, kept, Answering(boxed(alloc, boxes)))
 }
 
 /// Takes the oldest request that waits in a controller, if a box is free: 1 where `out` is, which is open from now on, for 200 ms, with
@@ -100,15 +91,7 @@ pub extern "C" fn j39_answers_turn(
         (kept.new.part, controller.new.part) (λ old new. (result ≡ pos 0) × TakesTurn micros old new) Never }
     ensures answers { Answers 0 (bad_value ∷ no_part ∷ []) result }
 {
-    let Some(now) = Stamp::new(micros) else {
-        return Refusal::BadValue.code();
-    };
-    ask!(alloc, kept, Answering(answers) => {
-        ask!(alloc, controller, Controlling(held) => {
-            answers.turn(held, now);
-            0
-        })
-    })
+    turn!(alloc, kept, controller, micros, Answering)
 }
 
 /// In how many microseconds the 200 ms of the first one are over: 1 and the time, or 0 where none is open; -2 where the handle holds no
@@ -122,6 +105,14 @@ pub extern "C" fn j39_answers_due_in(alloc: Global, kept: &mut Handle, time: &mu
     ensures fills { Fills (pos 1 ∷ []) result (time.new ≡ time.old) }
 {
     ask!(alloc, kept, Answering(answers) => put(answers.due_in(), time))
+}
+
+/// Answers in a box of their own. An error where memory is refused.
+fn boxed(alloc: Global, boxes: u8) -> Result<Box<Kept>, AllocError>
+    ensures { IfOk result (λ made. answers_of made.value ≡ none_in boxes) }
+{
+    let made = Kept::new(alloc, boxes)?;
+    Ok(Box::new(alloc, made)?)
 }
 
 /// Takes a request: 1, or 0 where none waits, or no box is free.

@@ -19,6 +19,7 @@ mod message;
 mod names;
 mod node;
 mod offering;
+mod outbox;
 mod part;
 mod peers;
 mod reading;
@@ -29,50 +30,105 @@ mod sender;
 mod table;
 mod taking;
 
-pub use assembler::{j39_assembler_feed, j39_assembler_forget, j39_assembler_new};
-pub use broadcast::{j39_broadcast_init, j39_broadcast_poll};
+pub use assembler::j39_assembler_feed;
+pub use assembler::j39_assembler_forget;
+pub use assembler::j39_assembler_new;
+pub use broadcast::j39_broadcast_init;
+pub use broadcast::j39_broadcast_poll;
 pub use can::CanFrame;
-pub use claims::{j39_claims_holder, j39_claims_init, j39_claims_note};
-pub use controller::{
-    PlainSetup, j39_controller_address_of, j39_controller_again, j39_controller_claims_request,
-    j39_controller_free_address, j39_controller_hear, j39_controller_holder, j39_controller_missed,
-    j39_controller_move_to, j39_controller_new, j39_controller_next_due, j39_controller_next_tick,
-    j39_controller_peek_frame, j39_controller_status, j39_controller_take_frame,
-    j39_controller_take_news, j39_controller_tick,
-};
+pub use claims::j39_claims_holder;
+pub use claims::j39_claims_init;
+pub use claims::j39_claims_note;
+pub use controller::PlainSetup;
+pub use controller::j39_controller_address_of;
+pub use controller::j39_controller_again;
+pub use controller::j39_controller_claims_request;
+pub use controller::j39_controller_free_address;
+pub use controller::j39_controller_hear;
+pub use controller::j39_controller_holder;
+pub use controller::j39_controller_missed;
+pub use controller::j39_controller_move_to;
+pub use controller::j39_controller_new;
+pub use controller::j39_controller_next_due;
+pub use controller::j39_controller_next_tick;
+pub use controller::j39_controller_peek_frame;
+pub use controller::j39_controller_status;
+pub use controller::j39_controller_take_frame;
+pub use controller::j39_controller_take_news;
+pub use controller::j39_controller_tick;
 pub use cut::j39_cut_frame;
-pub use faults::{PlainFault, PlainLamp, PlainLamps, j39_fault, j39_faults_message, j39_lamps};
-pub use fields::{
-    IdFields, NameParts, j39_id_compose, j39_id_split, j39_name_compose, j39_name_split,
-};
-pub use handed_out::{PlainEnded, PlainRequest};
-pub use handle::{Handle, j39_close};
-pub use kept_answers::{
-    j39_answers_answer, j39_answers_due_in, j39_answers_new, j39_answers_take_request,
-    j39_answers_turn,
-};
-pub use listener::{
-    j39_listener_feed, j39_listener_feed_as, j39_listener_holder, j39_listener_new,
-};
+pub use faults::PlainFault;
+pub use faults::PlainLamp;
+pub use faults::PlainLamps;
+pub use faults::j39_fault;
+pub use faults::j39_faults_message;
+pub use faults::j39_lamps;
+pub use fields::IdFields;
+pub use fields::NameParts;
+pub use fields::j39_id_compose;
+pub use fields::j39_id_split;
+pub use fields::j39_name_compose;
+pub use fields::j39_name_split;
+pub use handed_out::PlainEnded;
+pub use handed_out::PlainRequest;
+pub use handle::Handle;
+pub use handle::j39_close;
+pub use kept_answers::j39_answers_answer;
+pub use kept_answers::j39_answers_due_in;
+pub use kept_answers::j39_answers_new;
+pub use kept_answers::j39_answers_take_request;
+pub use kept_answers::j39_answers_turn;
+pub use listener::j39_listener_feed;
+pub use listener::j39_listener_feed_as;
+pub use listener::j39_listener_holder;
+pub use listener::j39_listener_new;
 pub use message::WholeMessage;
-pub use names::{
-    j39_failure_name, j39_function_name, j39_group_name, j39_maker_name, j39_parameter_name,
-};
-pub use node::{
-    j39_node_commanded, j39_node_init, j39_node_on, j39_node_start, j39_node_status, j39_node_tick,
-};
-pub use offering::{
-    j39_controller_acknowledge, j39_controller_ask, j39_controller_renew, j39_controller_send,
-    j39_controller_withdraw,
-};
-pub use peers::{PlainPeer, j39_peers_hear, j39_peers_heard_since, j39_peers_init, j39_peers_take};
-pub use reading::{PlainReading, j39_raw_of, j39_reading, j39_reading_text};
-pub use receiver::{j39_receiver_busy, j39_receiver_new, j39_receiver_on, j39_receiver_tick};
+pub use names::j39_failure_name;
+pub use names::j39_function_name;
+pub use names::j39_group_name;
+pub use names::j39_maker_name;
+pub use names::j39_parameter_name;
+pub use node::j39_node_commanded;
+pub use node::j39_node_init;
+pub use node::j39_node_on;
+pub use node::j39_node_start;
+pub use node::j39_node_status;
+pub use node::j39_node_tick;
+pub use offering::j39_controller_acknowledge;
+pub use offering::j39_controller_ask;
+pub use offering::j39_controller_renew;
+pub use offering::j39_controller_send;
+pub use offering::j39_controller_withdraw;
+pub use outbox::PlainSettled;
+pub use outbox::j39_outbox_ask;
+pub use outbox::j39_outbox_due_in;
+pub use outbox::j39_outbox_new;
+pub use outbox::j39_outbox_send;
+pub use outbox::j39_outbox_take_settled;
+pub use outbox::j39_outbox_turn;
+pub use peers::PlainPeer;
+pub use peers::j39_peers_hear;
+pub use peers::j39_peers_heard_since;
+pub use peers::j39_peers_init;
+pub use peers::j39_peers_take;
+pub use reading::PlainReading;
+pub use reading::j39_raw_of;
+pub use reading::j39_reading;
+pub use reading::j39_reading_text;
+pub use receiver::j39_receiver_busy;
+pub use receiver::j39_receiver_new;
+pub use receiver::j39_receiver_on;
+pub use receiver::j39_receiver_tick;
 pub use report_line::j39_report_line;
-pub use sender::{j39_sender_new, j39_sender_on, j39_sender_state, j39_sender_tick};
-pub use table::{
-    PlainWrong, j39_reading_by, j39_reading_text_by, j39_report_line_by, j39_table_check,
-};
-pub use taking::{
-    j39_controller_take_ended, j39_controller_take_received, j39_controller_take_request,
-};
+pub use sender::j39_sender_new;
+pub use sender::j39_sender_on;
+pub use sender::j39_sender_state;
+pub use sender::j39_sender_tick;
+pub use table::PlainWrong;
+pub use table::j39_reading_by;
+pub use table::j39_reading_text_by;
+pub use table::j39_report_line_by;
+pub use table::j39_table_check;
+pub use taking::j39_controller_take_ended;
+pub use taking::j39_controller_take_received;
+pub use taking::j39_controller_take_request;

@@ -10,6 +10,7 @@ ghost use Rattle.j39_c.specs.Messages.{message_in};
 ghost use Rattle.j39_c.specs.Parts.{HearsMore, HearsMoreAs, IsHolderBy, LacksMemory, listener_in};
 
 use crate::can::{CanFrame, frame_in};
+use crate::emptied::Emptied;
 use crate::handed_out::put_name;
 use crate::handle::Handle;
 use crate::message::WholeMessage;
@@ -26,7 +27,11 @@ pub extern "C" fn j39_listener_new(alloc: Global, listener: &mut Handle) -> i32
     ensures opens { Opens listener_in ⊤ listener.old.part result listener.new.part (λ made. Hears made []) }
     ensures answers { Answers 0 (no_memory ∷ in_use ∷ []) result }
 {
-    open!(alloc, listener, Listening(Listener::new(alloc)))
+    open!(
+        alloc,
+        listener,
+        Listening(Emptied::new(alloc, Listener::new(alloc)))
+    )
 }
 
 /// Feeds a listener the next frame of the bus: 1 where a message is heard at it, which is in `out` then, else 0. -1

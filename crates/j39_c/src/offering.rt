@@ -166,7 +166,7 @@ fn withdraw(controller: &mut Controller, token: u64) -> i32
 }
 
 /// A group and a moment, where both are in their range.
-fn group_and_moment(pgn: u32, micros: u64) -> Option<(Pgn, Stamp)>
+pub(crate) fn group_and_moment(pgn: u32, micros: u64) -> Option<(Pgn, Stamp)>
     ensures known { IsSome result ↔ IsAt pgn micros }
     ensures value { IfSome result (λ found. (pgn_raw found.0 ≡ pgn) × (stamp_micros found.1 ≡ micros)) }
 {

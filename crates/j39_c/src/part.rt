@@ -1,7 +1,7 @@
 //! The parts of the stack that a handle can hold.
 
 use crate::emptied::Emptied;
-use j39_application::Answers;
+use j39_application::{Answers, Outbox};
 use j39_listen::Listener;
 use j39_node::Controller;
 use j39_transport::{Assembler, OwnedSender, Receiver};
@@ -15,17 +15,18 @@ pub(crate) enum Part {
     Assembling(Emptied<Assembler>),
     Controlling(Box<Controller>),
     Answering(Box<Answers>),
+    Posting(Box<Outbox>),
 }
 
 /// What the part of this kind in a handle answers, or that the handle holds none: the part is taken out, asked, and put
 /// back.
 macro_rules! ask {
-    (@$alloc:ident, $handle:ident, $kind:ident($held:ident) => $answer:expr, $($other:ident)*) => {
+    ($alloc:ident, $handle:ident, $kind:ident($held:ident) => $answer:expr) => {
         match $handle.take($alloc) {
             Some(mut part) => {
                 let code = match &mut *part {
                     $crate::part::Part::$kind($held) => $answer,
-                    $($crate::part::Part::$other(_) => $crate::refusal::Refusal::NoPart.code(),)*
+                    _ => $crate::refusal::Refusal::NoPart.code(),
                 };
                 $handle.put($alloc, part);
                 code
@@ -33,39 +34,38 @@ macro_rules! ask {
             None => $crate::refusal::Refusal::NoPart.code(),
         }
     };
-    ($alloc:ident, $handle:ident, Listening($held:ident) => $answer:expr) => {
-        ask!(@$alloc, $handle, Listening($held) => $answer, Receiving Sending Assembling Controlling Answering)
-    };
-    ($alloc:ident, $handle:ident, Receiving($held:ident) => $answer:expr) => {
-        ask!(@$alloc, $handle, Receiving($held) => $answer, Listening Sending Assembling Controlling Answering)
-    };
-    ($alloc:ident, $handle:ident, Sending($held:ident) => $answer:expr) => {
-        ask!(@$alloc, $handle, Sending($held) => $answer, Listening Receiving Assembling Controlling Answering)
-    };
-    ($alloc:ident, $handle:ident, Assembling($held:ident) => $answer:expr) => {
-        ask!(@$alloc, $handle, Assembling($held) => $answer, Listening Receiving Sending Controlling Answering)
-    };
-    ($alloc:ident, $handle:ident, Controlling($held:ident) => $answer:expr) => {
-        ask!(@$alloc, $handle, Controlling($held) => $answer, Listening Receiving Sending Assembling Answering)
-    };
-    ($alloc:ident, $handle:ident, Answering($held:ident) => $answer:expr) => {
-        ask!(@$alloc, $handle, Answering($held) => $answer, Listening Receiving Sending Assembling Controlling)
-    };
 }
 
-/// Puts a new part of this kind into a handle, in a box of its own: 0, or -3 where memory is refused, and -4 where the
-/// handle is open.
+/// Puts a new part of this kind, which this call puts into a box of its own, into a handle: 0, or -3 where memory is refused, and
+/// -4 where the handle is open.
 macro_rules! open {
     ($alloc:ident, $handle:ident, $kind:ident($made:expr)) => {{
         if $handle.is_open($alloc) {
             return $crate::refusal::Refusal::InUse.code();
         }
-        let Ok(made) = $crate::emptied::Emptied::new($alloc, $made) else {
+        let Ok(made) = $made else {
             return $crate::refusal::Refusal::NoMemory.code();
         };
         $handle.put_new($alloc, $crate::part::Part::$kind(made))
     }};
 }
 
+/// The turn of what waits in a part of this kind, over the controller of another handle: 0; -1 for a moment out of its range, -2
+/// where a handle holds no such part.
+macro_rules! turn {
+    ($alloc:ident, $handle:ident, $controller:ident, $micros:ident, $kind:ident) => {{
+        let Some(now) = j39_frame::Stamp::new($micros) else {
+            return $crate::refusal::Refusal::BadValue.code();
+        };
+        ask!($alloc, $handle, $kind(kept) => {
+            ask!($alloc, $controller, Controlling(held) => {
+                kept.turn(held, now);
+                0
+            })
+        })
+    }};
+}
+
 pub(crate) use ask;
 pub(crate) use open;
+pub(crate) use turn;

@@ -10,9 +10,5 @@ returns-after-deref_mut-clause-refused c = elim c.match-deref_mut.branch [
       let same : w.assemble-code.new.assembler ≡ w.in-Assembling.held.part.value = search rules in
       let was : Some (Assembling w.in-Assembling.held) ≡ c.args.assembler.now.part = search rules in
       c.put.ensures ∙ ap (λ b. Some b.value) w.part-is ∙ ap (λ v. Some (Assembling (record { part = with_value w.in-Assembling.held.part v }))) same ∙ was
-  | goal.in-Listening w ↦ search rules
-  | goal.in-Receiving w ↦ search rules
-  | goal.in-Sending w ↦ search rules
-  | goal.in-Controlling w ↦ search rules
-  | goal.in-Answering w ↦ search rules
+  | goal.in_default-deref_mut w ↦ search rules
 ]

@@ -5,18 +5,10 @@ use Rattle.j39_c.proofs.kept_answers.j39_answers_take_request.Goals as goal
 pub returns-after-deref_mut-clause-fills : goal.returns-after-deref_mut-clause-fills
 returns-after-deref_mut-clause-fills c = elim c.match-deref_mut.branch [
   | goal.in-Answering+in-Some-take-2 w ↦ elim w.match-deref_mut-2.branch [
-    | goal.in-Controlling-deref_mut v ↦ λ other.
+    | goal.in-Controlling v ↦ λ other.
         w.out-is ∙ v.out-is ∙ v.put_asked-code.ensures.fills (λ one. other (w.code-is ∙ v.code-is ∙ ap (λ z. to_z w32 (of_z w32 z)) one))
-    | goal.in-Listening-deref_mut v ↦ search rules
-    | goal.in-Receiving-deref_mut v ↦ search rules
-    | goal.in-Sending-deref_mut v ↦ search rules
-    | goal.in-Assembling-deref_mut v ↦ search rules
-    | goal.in-Answering-deref_mut v ↦ search rules
+    | goal.in_default-deref_mut-2 v ↦ search rules
   ]
   | goal.in-Answering+in-None-take w ↦ search rules
-  | goal.in-Listening w ↦ search rules
-  | goal.in-Receiving w ↦ search rules
-  | goal.in-Sending w ↦ search rules
-  | goal.in-Assembling w ↦ search rules
-  | goal.in-Controlling w ↦ search rules
+  | goal.in_default-deref_mut w ↦ search rules
 ]

@@ -10,9 +10,5 @@ returns-after-deref_mut-clause-refused c = elim c.match-deref_mut.branch [
       let same : w.hear_as-code.new.listener ≡ w.in-Listening.held.part.value = search rules in
       let was : Some (Listening w.in-Listening.held) ≡ c.args.listener.now.part = search rules in
       c.put.ensures ∙ ap (λ b. Some b.value) w.part-is ∙ ap (λ v. Some (Listening (record { part = with_value w.in-Listening.held.part v }))) same ∙ was
-  | goal.in-Receiving w ↦ search rules
-  | goal.in-Sending w ↦ search rules
-  | goal.in-Assembling w ↦ search rules
-  | goal.in-Controlling w ↦ search rules
-  | goal.in-Answering w ↦ search rules
+  | goal.in_default-deref_mut w ↦ search rules
 ]

@@ -1,5 +1,5 @@
 -- A table's own faults are no want of memory.
-use Rattle.std.proofs.Common.{◌∙◌, Err, ap}
+use Rattle.std.proofs.Common.{Err, ap}
 use Rattle.j39_c.proofs.table.j39_table_check.Goals as goal
 
 pub returns-in-Err-clause-wrong : goal.returns-in-Err-clause-wrong
