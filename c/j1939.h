@@ -864,9 +864,9 @@ int32_t j1939_controller_close(j1939_controller *controller);
 
 /* ---- answers that are kept (J1939-21, 5.4.2 and 5.4.4)
  *
- * Where a program's answer finds no room at once, or isn't there yet, these keep it, so that no request is forgotten: take requests by
- * j1939_answers_take_request in place of j1939_controller_take_request. Each is open from then on: till its answer is accepted by the
- * controller, or, after 200 ms, it is refused. The loop:
+ * Where a program's answer finds no room at once, or isn't there yet, these keep it: take requests by j1939_answers_take_request in
+ * place of j1939_controller_take_request. Each is open from then on: till its answer is accepted by the controller, it is refused as
+ * busy after 200 ms, or it is dropped, as .._turn says. The loop:
  *  - after j1939_controller_hear, .._take_request until it answers 0, and .._answer for each, at once or later;
  *  - then, after each other .._answer, and once .._due_in is over, .._turn.
  *

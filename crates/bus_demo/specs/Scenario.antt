@@ -44,7 +44,7 @@ abbrev pub PlaysAll : List Player → Type 0
 PlaysAll = ArePlayed (member 0x8000000003401001 0 ∷ member 0x8000000001401002 0 ∷ member 0x8000000002401003 3
     ∷ member 0x8000000004401004 0xF9 ∷ [])
 
--- the six that tell their faults (J1939-73, 5.7.1), and the display, which hears six at once
+-- six, and the display, which hears six at once
 abbrev pub PlaysDisplay : List Player → Type 0
 PlaysDisplay = ArePlayed (member 0x8000000003402001 0 ∷ member 0x8000000003402002 3 ∷ member 0x8000000003402003 11
     ∷ member 0x8000000003402004 15 ∷ member 0x8000000003402005 33 ∷ member 0x8000000003402006 49

@@ -10,7 +10,8 @@ use Rattle.j39_c.specs.Codes.{told}
 use Rattle.j39_c.specs.Controllers.{Continues, IsAsked, Says, request_in}
 use Rattle.j39_c.specs.declared.handed_out.PlainRequest.{PlainRequest}
 
--- 1: this request, the oldest that waited, is open from now on; 0: none waited, or no box was free, and then nothing changes
+-- 1: this request, the oldest that waited, is open from now on; 0: no box was free, and nothing changes, or none waited, and only time
+-- passes
 pub record TakesAsked (micros : ℕ) (code : ℤ) (x : PlainRequest) (old new : Answers × Controller) : Type 0 where
   pub full : length (answers_of old.0).requests ≡ (answers_of old.0).boxes → (code ≡ pos 0) × (new ≡ old)
   pub takes : length (answers_of old.0).requests < (answers_of old.0).boxes
