@@ -1093,9 +1093,10 @@ static void answered_and_dropped(j1939_answers *kept, j1939_controller *controll
     EXPECT(goes(controller, 600000, 0x1CECFF80, announced) && j1939_answers_due_in(kept, &left) == 0);
     asks(controller, 65259, 255, 600000);
     EXPECT(j1939_answers_take_request(kept, controller, 600000, &request) == 1 && has_left(kept, 200000));
-    while (taken(controller, 800000)) EXPECT(out.id == 0x1CEBFF80);
+    EXPECT(taken(controller, 800000) == 0x1CEBFF80 && taken(controller, 800000) == 0);
     EXPECT(j1939_answers_turn(kept, controller, 800000) == 0 && j1939_answers_due_in(kept, &left) == 0);
-    EXPECT(taken(controller, 850000) == 0x1CEBFF80 && taken(controller, 999999) == 0);
+    EXPECT(taken(controller, 850000) == 0x1CEBFF80 && taken(controller, 900000) == 0x1CEBFF80);
+    EXPECT(taken(controller, 999999) == 0);
 }
 
 static void kept_answers(void) {
