@@ -1,5 +1,5 @@
 //! Answers that are kept till they are handed in, or refused as busy (J1939-21, 5.4.2 and 5.4.4).
-ghost use Rattle.std.specs.Prelude.{⊤, ◌≡◌, ◌<◌, ◌^◌, ◌∷◌, [], IfOk, pos};
+ghost use Rattle.std.specs.Prelude.{⊤, ◌≡◌, ◌<◌, ◌^◌, ◌∷◌, [], pos};
 ghost use Rattle.j39_frame.specs.Stamp.{stamp_micros};
 ghost use Rattle.j39_node.specs.Is.{request_by};
 ghost use Rattle.j39_application.specs.Answers.{none_in, soonest};
@@ -13,13 +13,13 @@ ghost use Rattle.j39_c.specs.Parts.{answering_in, answers_in};
 
 use crate::handed_out::{PlainRequest, put, put_request, request_of};
 use crate::handle::Handle;
-use crate::part::{ask, open, turn};
+use crate::part::{ask, in_box, open, turn};
 use crate::refusal::Refusal;
 use j39_application::{Answers as Kept, Asked};
 use j39_frame::Stamp;
 use j39_node::{Controller, Request};
 use j39_transport::LONGEST;
-use std::alloc::{AllocError, Global};
+use std::alloc::Global;
 
 /// Opens answers with room for so many open requests, none of which is there: 0; -3 where memory is refused, -4 where the handle is
 /// open.
@@ -28,7 +28,11 @@ pub extern "C" fn j39_answers_new(alloc: Global, kept: &mut Handle, boxes: u8) -
     ensures opens { Opens answers_in ⊤ kept.old.part result kept.new.part (λ made. answers_of made ≡ none_in boxes) }
     ensures answers { Answers 0 (no_memory ∷ in_use ∷ []) result }
 {
-    open!(alloc, kept, Answering(boxed(alloc, boxes)))
+    open!(
+        alloc,
+        kept,
+        Answering(in_box(alloc, Kept::new(alloc, boxes)))
+    )
 }
 
 /// Takes the oldest request that waits in a controller, if a box is free: 1 where `out` is, which is open from now on, for 200 ms, with
@@ -105,14 +109,6 @@ pub extern "C" fn j39_answers_due_in(alloc: Global, kept: &mut Handle, time: &mu
     ensures fills { Fills (pos 1 ∷ []) result (time.new ≡ time.old) }
 {
     ask!(alloc, kept, Answering(answers) => put(answers.due_in(), time))
-}
-
-/// Answers in a box of their own. An error where memory is refused.
-fn boxed(alloc: Global, boxes: u8) -> Result<Box<Kept>, AllocError>
-    ensures { IfOk result (λ made. answers_of made.value ≡ none_in boxes) }
-{
-    let made = Kept::new(alloc, boxes)?;
-    Ok(Box::new(alloc, made)?)
 }
 
 /// Takes a request: 1, or 0 where none waits, or no box is free.

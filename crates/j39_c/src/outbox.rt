@@ -1,5 +1,5 @@
 //! Messages and requests to NAMEs, kept till their NAMEs hold addresses (J1939-81, 4.2).
-ghost use Rattle.std.specs.Prelude.{⊤, ◌≡◌, ◌<◌, ◌^◌, ◌∷◌, [], IfOk, Some, pos};
+ghost use Rattle.std.specs.Prelude.{⊤, ◌≡◌, ◌<◌, ◌^◌, ◌∷◌, [], Some, pos};
 ghost use Rattle.j39_application.specs.Outbox.{Message, Request, none_out, soonest};
 ghost use Rattle.j39_application.specs.Shown.{outbox_of};
 ghost use Rattle.j39_c.specs.Calls.{Answers, Asks, Fills, Never, Opens, Tries};
@@ -11,12 +11,12 @@ ghost use Rattle.j39_c.specs.Parts.{outbox_in, posting_in};
 use crate::handed_out::{put, refused};
 use crate::handle::Handle;
 use crate::offering::group_and_moment;
-use crate::part::{ask, open, turn};
+use crate::part::{ask, in_box, open, turn};
 use crate::refusal::Refusal;
 use j39_address::Name;
 use j39_application::{Outbox, Settled};
 use j39_node::Refused;
-use std::alloc::{AllocError, Global};
+use std::alloc::Global;
 
 /// How what was kept for a NAME was settled, `j1939_settled` of the header.
 #[repr(C)]
@@ -37,7 +37,11 @@ pub extern "C" fn j39_outbox_new(alloc: Global, outbox: &mut Handle, boxes: u8) 
     ensures opens { Opens outbox_in ⊤ outbox.old.part result outbox.new.part (λ made. outbox_of made ≡ none_out boxes) }
     ensures answers { Answers 0 (no_memory ∷ in_use ∷ []) result }
 {
-    open!(alloc, outbox, Posting(boxed(alloc, boxes)))
+    open!(
+        alloc,
+        outbox,
+        Posting(in_box(alloc, Outbox::new(alloc, boxes)))
+    )
 }
 
 /// Keeps a message of 0 to 1,785 bytes, with a priority of 0 to 7, for a NAME: 1, and its number, which is how many were accepted before.
@@ -131,14 +135,6 @@ pub extern "C" fn j39_outbox_due_in(alloc: Global, outbox: &mut Handle, time: &m
     ensures fills { Fills (pos 1 ∷ []) result (time.new ≡ time.old) }
 {
     ask!(alloc, outbox, Posting(kept) => put(kept.due_in(), time))
-}
-
-/// An outbox in a box of its own. An error where memory is refused.
-fn boxed(alloc: Global, boxes: u8) -> Result<Box<Outbox>, AllocError>
-    ensures { IfOk result (λ made. outbox_of made.value ≡ none_out boxes) }
-{
-    let made = Outbox::new(alloc, boxes)?;
-    Ok(Box::new(alloc, made)?)
 }
 
 /// Writes out the number of what is kept: 1, or why it isn't.

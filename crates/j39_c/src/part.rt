@@ -1,10 +1,12 @@
 //! The parts of the stack that a handle can hold.
+ghost use Rattle.std.specs.Prelude.{◌≡◌, IfOk, Ok};
 
 use crate::emptied::Emptied;
 use j39_application::{Answers, Outbox};
 use j39_listen::Listener;
 use j39_node::Controller;
 use j39_transport::{Assembler, OwnedSender, Receiver};
+use std::alloc::{AllocError, Global};
 
 /// What a handle holds. Each kind lies in a box of its own size.
 #[derive(Drop)]
@@ -16,6 +18,16 @@ pub(crate) enum Part {
     Controlling(Box<Controller>),
     Answering(Box<Answers>),
     Posting(Box<Outbox>),
+}
+
+/// What was made, in a box of its own. An error where memory is refused, or was.
+pub(crate) fn in_box<T: Drop>(
+    alloc: Global,
+    made: Result<T, AllocError>,
+) -> Result<Box<T>, AllocError>
+    ensures { IfOk result (λ boxed. made ≡ Ok boxed.value) }
+{
+    Ok(Box::new(alloc, made?)?)
 }
 
 /// What the part of this kind in a handle answers, or that the handle holds none: the part is taken out, asked, and put
