@@ -945,15 +945,15 @@ int32_t j1939_outbox_send(j1939_outbox *outbox, uint64_t micros, uint64_t name, 
 int32_t j1939_outbox_ask(j1939_outbox *outbox, uint64_t micros, uint64_t name, uint32_t pgn, uint64_t *number);
 
 /** Gives each that is kept its turn, the oldest first. It is handed in, as by j1939_controller_send or .._ask, to the address that its
- * NAME holds, by the claims that the controller heard and its own that were taken. What finds no room there stays. So does what has a
- * NAME without address, for 1250 ms, which count anew from each turn at which it holds one.
+ * NAME holds, by the claims that the controller heard and its own that were taken. What finds no room there stays. So does, for 1250 ms,
+ * what has a NAME without address, or a controller that holds none itself: they count anew from each turn at which both hold one.
  * @return 0, J1939_BAD_VALUE, J1939_NO_PART */
 int32_t j1939_outbox_turn(j1939_outbox *outbox, j1939_controller *controller, uint64_t micros);
 
 /** How one was settled. */
 enum j1939_settlement {
     J1939_SETTLED_HANDED_IN = 1, /**< it was handed in: the controller tells how it ends */
-    J1939_SETTLED_REFUSED = 2,   /**< the controller refused it for good, as refusal says */
+    J1939_SETTLED_REFUSED = 2,   /**< the controller refused it, for good or for 1250 ms, as refusal says */
     J1939_SETTLED_GONE = 3       /**< its NAME held no address for 1250 ms */
 };
 
@@ -961,7 +961,7 @@ enum j1939_settlement {
 typedef struct {
     J1939_ALIGNED uint64_t number; /**< its number */
     uint64_t token;  /**< of what was handed in the token, as of j1939_controller_send; else 0 */
-    int32_t refusal; /**< of what was refused J1939_NO_ADDRESS, where the controller holds none, or J1939_BAD_VALUE; else 0 */
+    int32_t refusal; /**< of what was refused J1939_NO_ADDRESS, where the controller held none for 1250 ms, or J1939_BAD_VALUE; else 0 */
 } j1939_settled;
 
 /** Takes how the next was settled, each once, in their order: 0 where none is left; J1939_SETTLED_HANDED_IN and so on where it stands in

@@ -1207,8 +1207,10 @@ static void handed_in_later(j1939_outbox *outbox, j1939_controller *controller) 
     EXPECT(j1939_outbox_turn(outbox, controller, 1600000) == 0 && is_settled(outbox, J1939_SETTLED_HANDED_IN, 3, 6, 0));
 }
 
-/* One for a NAME that never comes is gone after 1,250 ms; what no identifier can be to an address is refused for good. */
+/* One for a NAME that never comes is gone after 1,250 ms; what no identifier can be to an address is refused for good. What comes while
+ * the address is claimed anew waits, and is refused after 1,250 ms, since NAME 0 wins it. */
 static void gone_and_refused(j1939_outbox *outbox, j1939_controller *controller) {
+    j1939_frame claim = {.id = 0x18EEFF80, .len = 8};
     uint64_t number;
     EXPECT(j1939_outbox_send(outbox, 1700000, 77, 6, 61184, payload, 3, &number) == 1 && number == 4);
     EXPECT(j1939_outbox_send(outbox, 1700000, OTHER, 6, 60928, payload, 8, &number) == 1 && number == 5);
@@ -1218,7 +1220,10 @@ static void gone_and_refused(j1939_outbox *outbox, j1939_controller *controller)
     EXPECT(is_settled(outbox, J1939_SETTLED_GONE, 4, 0, 0) && is_settled(outbox, 0, 7, 7, 7));
     EXPECT(j1939_controller_again(controller, 3000000) == 0 && taken(controller, 3000000) == 0x18EEFF80);
     EXPECT(j1939_outbox_ask(outbox, 3000000, OTHER, 65260, &number) == 1 && number == 6);
-    EXPECT(j1939_outbox_turn(outbox, controller, 3000000) == 0);
+    EXPECT(j1939_outbox_turn(outbox, controller, 3249999) == 0 && has_time(outbox, 1000001));
+    EXPECT(j1939_controller_hear(controller, &claim, 3249999) == 0);
+    EXPECT(j1939_outbox_turn(outbox, controller, 4249999) == 0 && has_time(outbox, 1) && is_settled(outbox, 0, 7, 7, 7));
+    EXPECT(j1939_outbox_turn(outbox, controller, 4250000) == 0 && j1939_outbox_due_in(outbox, &number) == 0);
     EXPECT(is_settled(outbox, J1939_SETTLED_REFUSED, 6, 0, J1939_NO_ADDRESS));
 }
 

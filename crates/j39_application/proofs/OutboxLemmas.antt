@@ -10,7 +10,7 @@ use Rattle.j39_node.specs.declared.controller.Controller.{Controller}
 use Rattle.j39_node.specs.declared.kinds.Refused.{Refused}
 use Rattle.j39_node.specs.declared.kinds.Refused.TheVariants as why
 use Rattle.j39_application.proofs.CourseLemmas.{count_append, count_next, one}
-use Rattle.j39_application.specs.Outbox.{aged, AreDone, calls, Deed, Does, ends, Errand, goes_by, hands_in, IsMet, IsTurn, keeps, can_go, has_room, kept, kept_anew, Letter, letters_of, older, OutboxRecord, patience, put, settled_by, settled_of, numbered, Stands, StandsNowhere}
+use Rattle.j39_application.specs.Outbox.{aged, AreDone, calls, Deed, Does, ends, Errand, goes_by, hands_in, IsMet, IsTurn, keeps, can_go, has_room, kept, kept_anew, left_by, Letter, letters_of, older, OutboxRecord, patience, put, settled_by, settled_of, numbered, Stands, StandsNowhere}
 use Rattle.j39_application.specs.Outbox.Does.{gone, handed_in, waits}
 use Rattle.j39_application.specs.OutboxCourse.{after, AreTurns, Event, Gets, is_gone, is_handed_in, is_refused, Tells, times_among, times_kept, times_settled, times_told, Turns}
 use Rattle.j39_transfers.specs.Transfers.{listed}
@@ -25,13 +25,15 @@ use Rattle.j39_application.specs.declared.sending.Token.{Token}
 
 pub is_met : (now : ℕ) (o : Letter) (a : ℕ) (answer : Result Token Refused) (how : Option Settled) (old new : Controller)
     → ((w : Who) (H : List Call) → Is w H old → Stands w H o.name a) → IfOk answer (λ token. token.way ≡ goes_by o.errand a)
-    → LeadsOn (hands_in now o.errand a (numbers answer) ∷ []) old new → how ≡ settled_by answer → IsMet now o (record o { left = patience }) how old new
-is_met now o a answer how old new s y l e =
+    → LeadsOn (hands_in now o.errand a (numbers answer) ∷ []) old new → how ≡ settled_by o.left answer → (left : ℕ) → left ≡ left_by o.left answer
+    → IsMet now o (record o { left = left }) how old new
+is_met now o a answer how old new s y l e left k =
     let C : List Call = hands_in now o.errand a (numbers answer) ∷ [] in
-    let next : Letter = record o { left = patience } in
+    let next : Letter = record o { left = left } in
     record {
       calls = C;
-      does = λ w H h. subst (λ (x : Option Settled). Does w H now o C next x) (sym e) (handed_in a answer (s w H h) y);
+      does = λ w H h. subst (λ (x : ℕ). Does w H now o C (record o { left = x }) how) (sym k)
+          (subst (λ (x : Option Settled). Does w H now o C (record o { left = left_by o.left answer }) x) (sym e) (handed_in a answer (s w H h) y));
       leads = l;
     }
 
@@ -314,15 +316,19 @@ pub to_its_name : (w : Who) (H : List Call) (now : ℕ) (s : OutboxRecord) (late
 to_its_name w H now s later d earlier call t h =
     handed_to w (calls earlier ++ H) now d.letter d.after d.calls d.settled call (done_at w H now later d earlier t.does) h
 
-never_gone : (answer : Result Token Refused) → settled_by answer ≡ Some settled.Gone → ⊥
-never_gone (Ok token) e = cc
-never_gone (Err why.NoAddress) e = cc
-never_gone (Err why.BadValue) e = cc
-never_gone (Err why.Full) e = cc
+refused_or_kept : (b : Bool) → (if b then Some (settled.Refused why.NoAddress) else None) ≡ Some settled.Gone → ⊥
+refused_or_kept true e = cc
+refused_or_kept false e = cc
+
+never_gone : (left : ℕ) (answer : Result Token Refused) → settled_by left answer ≡ Some settled.Gone → ⊥
+never_gone left (Ok token) e = cc
+never_gone left (Err why.NoAddress) e = refused_or_kept (nat_eq left 0) e
+never_gone left (Err why.BadValue) e = cc
+never_gone left (Err why.Full) e = cc
 
 went : (w : Who) (H : List Call) (now : ℕ) (o next : Letter) (C : List Call) (how : Option Settled) → Does w H now o C next how
     → how ≡ Some settled.Gone → StandsNowhere w H o.name × (o.left ≡ 0)
-went w H now o _ _ _ (handed_in a answer s y) e = absurd (never_gone answer e)
+went w H now o _ _ _ (handed_in a answer s y) e = absurd (never_gone o.left answer e)
 went w H now o _ _ _ (waits s l) e = absurd cc
 went w H now o _ _ _ (gone s z) e = (s, z)
 
@@ -332,11 +338,48 @@ pub by_nobody : (w : Who) (H : List Call) (now : ℕ) (s : OutboxRecord) (later 
 by_nobody w H now s later d earlier t e =
     went w (calls earlier ++ H) now d.letter d.after d.calls d.settled (done_at w H now later d earlier t.does) e
 
+none_left : (b : Bool) (left : ℕ) → nat_eq left 0 ≡ b → (if b then Some (settled.Refused why.NoAddress) else None) ≡ Some (settled.Refused why.NoAddress)
+    → left ≡ 0
+none_left true left b e = grind (arith, b)
+none_left false left b e = absurd cc
+
+abbrev IsRefused : ℕ → Letter → List Call → Type 0
+IsRefused now o C = (a : ℕ) × (C ≡ hands_in now o.errand a (Err why.NoAddress) ∷ []) × (o.left ≡ 0)
+
+refused_by : (now : ℕ) (o : Letter) (a : ℕ) (answer : Result Token Refused) → settled_by o.left answer ≡ Some (settled.Refused why.NoAddress)
+    → IsRefused now o (hands_in now o.errand a (numbers answer) ∷ [])
+refused_by now o a (Ok token) e = absurd cc
+refused_by now o a (Err why.NoAddress) e = (a, refl, none_left (nat_eq o.left 0) o.left refl e)
+refused_by now o a (Err why.BadValue) e = absurd cc
+refused_by now o a (Err why.Full) e = absurd cc
+
+was_refused : (w : Who) (H : List Call) (now : ℕ) (o next : Letter) (C : List Call) (how : Option Settled) → Does w H now o C next how
+    → how ≡ Some (settled.Refused why.NoAddress) → IsRefused now o C
+was_refused w H now o _ _ _ (handed_in a answer s y) e = refused_by now o a answer e
+was_refused w H now o _ _ _ (waits s l) e = absurd cc
+was_refused w H now o _ _ _ (gone s z) e = absurd cc
+
+pub by_nothing : (w : Who) (H : List Call) (now : ℕ) (s : OutboxRecord) (later : List Deed) (d : Deed) (earlier : List Deed)
+    → IsTurn w H now s (later ++ d ∷ earlier) → d.settled ≡ Some (settled.Refused why.NoAddress) → (a : ℕ)
+    × (d.calls ≡ hands_in now d.letter.errand a (Err why.NoAddress) ∷ []) × (d.letter.left ≡ 0)
+by_nothing w H now s later d earlier t e =
+    was_refused w (calls earlier ++ H) now d.letter d.after d.calls d.settled (done_at w H now later d earlier t.does) e
+
 -- ---- none waits too long
+
+some_if_kept : (b : Bool) (left : ℕ) → nat_eq left 0 ≡ b → (if b then Some (settled.Refused why.NoAddress) else None) ≡ None → 0 < left
+some_if_kept true left b e = absurd cc
+some_if_kept false left b e = grind (arith, b)
+
+left_then : (left : ℕ) (answer : Result Token Refused) → settled_by left answer ≡ None → 0 < left_by left answer
+left_then left (Ok token) e = absurd cc
+left_then left (Err why.NoAddress) e = some_if_kept (nat_eq left 0) left refl e
+left_then left (Err why.BadValue) e = absurd cc
+left_then left (Err why.Full) e = let z : 0 < patience = omega arith in z
 
 left_after : (w : Who) (H : List Call) (now : ℕ) (o next : Letter) (C : List Call) (how : Option Settled) → Does w H now o C next how
     → how ≡ None → 0 < next.left
-left_after w H now o _ _ _ (handed_in a answer s y) e = let z : 0 < patience = omega arith in z
+left_after w H now o _ _ _ (handed_in a answer s y) e = left_then o.left answer e
 left_after w H now o _ _ _ (waits s l) e = l
 left_after w H now o _ _ _ (gone s z) e = absurd cc
 

@@ -1,5 +1,5 @@
 -- Messages, and requests (J1939-21, 5.4.2), to NAMEs (J1939-81, 4.1.1): each is kept till its NAME holds an address and there is room.
-use Rattle.std.specs.Prelude.{◌≡◌, ◌<◌, ◌^◌, ◌+◌, ◌-◌, ◌++◌, ◌∷◌, ◌&&◌, [], ℕ, Bool, true, nat_le, nat_lt, Option, Some, None, List, Result, Ok, Err, IfOk, length, map, drop, if◌then◌else◌}
+use Rattle.std.specs.Prelude.{◌≡◌, ◌<◌, ◌^◌, ◌+◌, ◌-◌, ◌++◌, ◌∷◌, ◌&&◌, [], ℕ, Bool, true, nat_eq, nat_le, nat_lt, Option, Some, None, List, Result, Ok, Err, IfOk, length, map, drop, if◌then◌else◌}
 use Rattle.std.specs.Option.{option_map}
 use Rattle.j39_address.specs.Claim.{claims_of}
 use Rattle.j39_address.specs.Holder.{IsHolderAfter}
@@ -25,8 +25,8 @@ pub data Errand : Type 0 where
   Message : ℕ → ℕ → List ℕ → Errand
   Request : ℕ → Errand
 
--- one that is kept: how many were accepted before it, for which NAME, what, and what is left of the 1,250 ms that the NAME may hold no
--- address (own), in microseconds
+-- one that is kept: how many were accepted before it, for which NAME, what, and what is left of the 1,250 ms that the NAME, or the
+-- controller itself, may hold no address (own), in microseconds
 pub record Letter : Type 0 where
   pub number : ℕ
   pub name : ℕ
@@ -114,18 +114,24 @@ abbrev pub goes_by : Errand → ℕ → Way
 goes_by (Message priority group bytes) a = way_of (draft_to a priority group bytes)
 goes_by (Request group) a = way.Frame
 
--- how it is settled by what the controller answers; not at all where there is no room
-abbrev pub settled_by : Result Token Refused → Option Settled
-settled_by (Ok token) = Some (settled.HandedIn token)
-settled_by (Err why.NoAddress) = Some (settled.Refused why.NoAddress)
-settled_by (Err why.BadValue) = Some (settled.Refused why.BadValue)
-settled_by (Err why.Full) = None
+-- how one with so much of its time left is settled by what the controller answers: not at all where there is no room, nor where that
+-- holds no address itself (J1939-81, 4.2.2), unless nothing is left
+abbrev pub settled_by : ℕ → Result Token Refused → Option Settled
+settled_by left (Ok token) = Some (settled.HandedIn token)
+settled_by left (Err why.NoAddress) = if nat_eq left 0 then Some (settled.Refused why.NoAddress) else None
+settled_by left (Err why.BadValue) = Some (settled.Refused why.BadValue)
+settled_by left (Err why.Full) = None
+
+-- what is left of its time then: that goes on where the controller holds no address itself, else it counts anew
+abbrev pub left_by : ℕ → Result Token Refused → ℕ
+left_by left (Err why.NoAddress) = left
+left_by left _ = patience
 
 -- what a turn does about one, behind this history: its calls, what it is afterwards, and how it is settled, if it is. Where its NAME holds
--- an address it is handed in to that, and its 1,250 ms count anew
+-- an address it is handed in to that, and what the controller answers says the rest
 pub data Does (w : Who) (H : List Call) (now : ℕ) (o : Letter) : List Call → Letter → Option Settled → Type 0 where
   handed_in : (a : ℕ) (answer : Result Token Refused) → Stands w H o.name a → IfOk answer (λ token. token.way ≡ goes_by o.errand a)
-      → Does w H now o (hands_in now o.errand a (numbers answer) ∷ []) (record o { left = patience }) (settled_by answer)
+      → Does w H now o (hands_in now o.errand a (numbers answer) ∷ []) (record o { left = left_by o.left answer }) (settled_by o.left answer)
   waits : StandsNowhere w H o.name → 0 < o.left → Does w H now o [] o None
   gone : StandsNowhere w H o.name → o.left ≡ 0 → Does w H now o [] o (Some settled.Gone)
 

@@ -3,7 +3,7 @@ ghost use Rattle.std.specs.Prelude.{◌≡◌, ◌∷◌, [], IfOk};
 ghost use Rattle.j39_frame.specs.Stamp.{stamp_micros};
 ghost use Rattle.j39_application.specs.Answers.{LeadsOn};
 ghost use Rattle.j39_application.specs.Boxes.{errand_of, letter_in};
-ghost use Rattle.j39_application.specs.Outbox.{IsMet, goes_by, hands_in, settled_by};
+ghost use Rattle.j39_application.specs.Outbox.{IsMet, goes_by, hands_in, left_by, settled_by};
 ghost use Rattle.j39_application.specs.Sending.{numbers};
 
 use crate::kept::Waits;
@@ -14,7 +14,8 @@ use j39_frame::{Pgn, Stamp};
 use j39_node::{Controller, Refused};
 use j39_transport::LONGEST;
 
-/// How long a NAME may hold no address, in microseconds (own): 1,250 ms, as long as an answer to a request may take.
+/// How long a NAME, or the controller itself, may hold no address, in microseconds (own): 1,250 ms, as long as an answer to a request
+/// may take.
 const PATIENCE: u64 = 1_250_000;
 
 /// How a message or a request to a NAME was settled.
@@ -22,7 +23,7 @@ const PATIENCE: u64 = 1_250_000;
 pub enum Settled {
     /// It was handed in to the controller, which tells how it ends by this token.
     HandedIn(Token),
-    /// The controller refused it for good: as `NoAddress`, which it lacks itself, or as `BadValue`.
+    /// The controller refused it for good: as `BadValue`, or as `NoAddress`, where it still held none itself after 1,250 ms.
     Refused(Refused),
     /// Its NAME held no address for 1,250 ms.
     Gone,
@@ -121,15 +122,17 @@ impl Waits for Posted {
 
 impl Posted {
     /// Hands it in to the address that its NAME holds, and answers how it is settled by that; or as gone, where the NAME holds none and
-    /// nothing is left of its time. `None` where it stays.
+    /// nothing is left of its time. `None` where it stays. Its time goes on where either of both, NAME or controller, holds none.
     fn settles(&mut self, controller: &mut Controller, now: Stamp) -> Option<Settled>
         ensures meets { IsMet (stamp_micros now) (letter_in self.old) (letter_in self.new) result controller.old controller.new }
         ensures number { self.new.letter.number ≡ self.old.letter.number }
     {
         match controller.address_of(self.letter.name) {
             Some(address) => {
-                self.left = PATIENCE;
-                settled_by(self.hand_in(controller, now, address))
+                let answer = self.hand_in(controller, now, address);
+                let settled = settled_by(self.left, answer);
+                self.left = left_by(self.left, answer);
+                settled
             }
             None => {
                 if self.left == 0 {
@@ -173,14 +176,33 @@ impl Posted {
     }
 }
 
-/// How one is settled by what the controller answers; not at all where there is no room.
-fn settled_by(answer: Result<Token, Refused>) -> Option<Settled>
-    ensures { result ≡ settled_by answer }
+/// How one with so much of its time left is settled by what the controller answers: not at all where there is no room, nor where that
+/// holds no address itself, unless nothing is left.
+fn settled_by(left: u64, answer: Result<Token, Refused>) -> Option<Settled>
+    ensures { result ≡ settled_by left answer }
 {
     match answer {
         Ok(token) => Some(Settled::HandedIn(token)),
-        Err(Refused::NoAddress) => Some(Settled::Refused(Refused::NoAddress)),
+        Err(Refused::NoAddress) => {
+            if left == 0 {
+                Some(Settled::Refused(Refused::NoAddress))
+            } else {
+                None
+            }
+        }
         Err(Refused::BadValue) => Some(Settled::Refused(Refused::BadValue)),
         Err(Refused::Full) => None,
+    }
+}
+
+/// What is left of its time then: that goes on where the controller holds no address itself, else it counts anew.
+fn left_by(left: u64, answer: Result<Token, Refused>) -> u64
+    ensures { result ≡ left_by left answer }
+{
+    match answer {
+        Ok(_) => PATIENCE,
+        Err(Refused::NoAddress) => left,
+        Err(Refused::BadValue) => PATIENCE,
+        Err(Refused::Full) => PATIENCE,
     }
 }

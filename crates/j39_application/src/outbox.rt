@@ -88,8 +88,8 @@ impl Outbox {
     }
 
     /// Hands in each that is kept, the oldest first, to the address that its NAME holds now (J1939-81, 4.2). What the controller refuses
-    /// as `Full` stays. So does what has a NAME without address, for 1,250 ms, which count anew from a turn at which the NAME holds one:
-    /// then it is gone.
+    /// as `Full` stays. So does, for 1,250 ms, what has a NAME without address, which then is gone, and what the controller refuses as
+    /// `NoAddress`, having none itself, which then is refused so. They count anew from a turn at which both have one.
     pub fn turn(&mut self, controller: &mut Controller, now: Stamp)
         ensures does { (ds : List Deed) × (outbox_of self.new ≡ turned (stamp_micros now) ds (outbox_of self.old))
             × ((w : Who) (H : List Call) → Is w H controller.old
@@ -113,8 +113,8 @@ impl Outbox {
         Some(self.settled.remove(0))
     }
 
-    /// In how many microseconds the first one's 1,250 ms are over, 0 where they are: then a turn is due, as after each message. `None` if
-    /// none is kept.
+    /// In how many microseconds from the last turn, or the last `send` or `ask` that kept one, the first one's 1,250 ms are over, 0 where
+    /// they are: then a turn is due, as after each message. `None` if none is kept.
     pub fn due_in(&self) -> Option<u64>
         ensures { result ≡ soonest (outbox_of self.now).letters }
     {

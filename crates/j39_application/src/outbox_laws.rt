@@ -1,8 +1,9 @@
 //! What holds over all that an application sends to NAMEs.
-ghost use Rattle.std.specs.Prelude.{◌≡◌, ◌<◌, ◌+◌, ◌++◌, ◌∷◌, ℕ, Bool, List, Some, Result};
+ghost use Rattle.std.specs.Prelude.{◌≡◌, ◌<◌, ◌+◌, ◌++◌, ◌∷◌, [], ℕ, Bool, List, Some, Err, Result};
 ghost use Rattle.std.specs.List.{Contains};
 ghost use Rattle.j39_node.specs.History.{Call, Who};
 ghost use Rattle.j39_node.specs.declared.kinds.Refused.{Refused};
+ghost use Rattle.j39_node.specs.declared.kinds.Refused.TheVariants as why;
 ghost use Rattle.j39_application.specs.Outbox.{Deed, IsTurn, Letter, OutboxRecord, Stands, StandsNowhere, calls, hands_in, turned};
 ghost use Rattle.j39_application.specs.OutboxCourse.{AreTurns, Event, after, example, is_gone, is_handed_in, is_refused, times_among, times_kept, times_settled, times_told, waiting};
 ghost use Rattle.j39_application.specs.declared.letter.Settled.{Settled};
@@ -18,7 +19,8 @@ pub fn none_is_lost()
 {}
 
 /// What a turn hands in goes to an address that its NAME holds then, by the claims that the controller was told till then. What is gone by
-/// it has a NAME that holds none, and nothing is left of its 1,250 ms.
+/// it has a NAME that holds none, and nothing is left of its 1,250 ms. What is refused as `NoAddress` the controller answered so when it
+/// was handed in, and nothing is left either.
 pub fn each_goes_to_its_name()
     ensures to { (w : Who) (H : List Call) (now : ℕ) (s : OutboxRecord) (later : List Deed) (d : Deed) (earlier : List Deed) (call : Call)
         → IsTurn w H now s (later ++ d ∷ earlier) → Contains d.calls call → (a : ℕ) × (answer : Result ℕ Refused)
@@ -26,10 +28,13 @@ pub fn each_goes_to_its_name()
     ensures gone { (w : Who) (H : List Call) (now : ℕ) (s : OutboxRecord) (later : List Deed) (d : Deed) (earlier : List Deed)
         → IsTurn w H now s (later ++ d ∷ earlier) → d.settled ≡ Some settled.Gone
         → StandsNowhere w (calls earlier ++ H) d.letter.name × (d.letter.left ≡ 0) }
+    ensures refused { (w : Who) (H : List Call) (now : ℕ) (s : OutboxRecord) (later : List Deed) (d : Deed) (earlier : List Deed)
+        → IsTurn w H now s (later ++ d ∷ earlier) → d.settled ≡ Some (settled.Refused why.NoAddress) → (a : ℕ)
+        × (d.calls ≡ hands_in now d.letter.errand a (Err why.NoAddress) ∷ []) × (d.letter.left ≡ 0) }
 {}
 
-/// Behind a turn none is kept whose 1,250 ms are over: they count from when it was accepted, and anew from a turn at which its NAME held
-/// an address.
+/// Behind a turn none is kept whose 1,250 ms are over, over a controller without address too: they count from when it was accepted, and
+/// anew from a turn at which its NAME held an address and the controller answered something else than `NoAddress`.
 pub fn none_waits_too_long()
     ensures { (w : Who) (H : List Call) (now : ℕ) (s : OutboxRecord) (ds : List Deed) (o : Letter) → IsTurn w H now s ds
         → Contains (turned now ds s).letters o → 0 < o.left }

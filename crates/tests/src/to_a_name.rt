@@ -1,7 +1,7 @@
-//! What goes to a NAME: to the address that it holds when it is handed in, or nowhere, if it holds none for 1,250 ms.
+//! What goes to a NAME: to the address that it holds when it is handed in, or nowhere, if it, or the controller, holds none for 1,250 ms.
 use crate::steps::{self, Step, controller};
 use Post::{Asks, Does, HandsIn, IsDue, Sends, Settles, Turns};
-use Step::{Ends, EndsAsk, Gives, Hears, Ticks};
+use Step::{Again, Ends, EndsAsk, Gives, Hears, Ticks};
 use j39_address::Name;
 use j39_application::{Outbox, Settled, Token, Way};
 use j39_frame::{Pgn, Stamp};
@@ -105,12 +105,61 @@ static IS_ASKED: &[Post] = &[
     Does(Gives(1_020_000, Some("(0000000001.020000) can0 18EA0B80#EBFE00"))),
 ];
 
-/// Before its own address is held the controller refuses it.
-static TOO_EARLY: &[Post] = &[
+/// NAME 5 is at 11, and the controller's claim is won 250 ms after it went out: at the first turn from then on it is handed in.
+static COMES_EARLY: &[Post] = &[
+    CLAIMS,
+    Does(Hears("(0.100000) can0 18EEFF0B#0500000000000000")),
+    Sends(100_000, 5, &[1, 2, 3], Ok(0)),
+    Sends(100_000, 5, &[1, 2, 3, 4, 5, 6, 7, 8, 9], Ok(1)),
+    Turns(100_000),
+    IsDue(Some(1_250_000)),
+    Turns(249_999),
+    IsDue(Some(1_100_001)),
+    Settles(None),
+    Does(Gives(249_999, None)),
+    Turns(250_000),
+    HandsIn(0, Way::Frame, 0),
+    HandsIn(1, Way::Transfer, 0),
+    IsDue(None),
+    Does(Gives(250_000, Some("(0000000000.250000) can0 18EF0B80#010203"))),
+    Does(Gives(
+        250_000,
+        Some("(0000000000.250000) can0 1CEC0B80#10090002FF00EF00"),
+    )),
+];
+
+/// It claims anew, and what was handed in then waits for that as well: the 250 ms are over before the 1,250 ms.
+static CLAIMS_ANEW: &[Post] = &[
+    CLAIMS,
+    HOLDS,
+    Does(Hears("(0.300000) can0 18EEFF0B#0500000000000000")),
+    Does(Again(1_000_000)),
+    Does(Gives(
+        1_000_000,
+        Some("(0000000001.000000) can0 18EEFF80#0200000000000000"),
+    )),
+    Asks(1_000_000, 5, Ok(0)),
+    Turns(1_249_999),
+    Settles(None),
+    IsDue(Some(1_000_001)),
+    Turns(1_250_000),
+    HandsIn(0, Way::Frame, 0),
+    Does(Gives(1_250_000, Some("(0000000001.250000) can0 18EA0B80#EBFE00"))),
+];
+
+/// The controller's claim never goes out: NAME 5 at 11 gets nothing, and after 1,250 ms that is told, once.
+static NEVER_CLAIMS: &[Post] = &[
     Does(Hears("(0.100000) can0 18EEFF0B#0500000000000000")),
     Sends(100_000, 5, &[1], Ok(0)),
     Turns(100_000),
+    Settles(None),
+    Turns(1_349_999),
+    IsDue(Some(1)),
+    Settles(None),
+    Turns(1_350_000),
+    IsDue(None),
     Settles(Some((0, Settled::Refused(Refused::NoAddress)))),
+    Settles(None),
 ];
 
 /// Whether it does as the step says; `None` where the step isn't one.
@@ -168,8 +217,15 @@ fn a_request_waits_for_room(rt: HostRuntime) -> Result<(), Fail> {
 }
 
 #[test]
-fn it_is_refused_before_an_address_is_held(rt: HostRuntime) -> Result<(), Fail> {
-    assert_eq!(rt; wrong_post(rt.alloc(), 1, TOO_EARLY)?, None);
+fn it_waits_for_the_own_address(rt: HostRuntime) -> Result<(), Fail> {
+    assert_eq!(rt; wrong_post(rt.alloc(), 2, COMES_EARLY)?, None);
+    assert_eq!(rt; wrong_post(rt.alloc(), 1, CLAIMS_ANEW)?, None);
+    Ok(())
+}
+
+#[test]
+fn it_is_refused_without_own_address(rt: HostRuntime) -> Result<(), Fail> {
+    assert_eq!(rt; wrong_post(rt.alloc(), 1, NEVER_CLAIMS)?, None);
     Ok(())
 }
 

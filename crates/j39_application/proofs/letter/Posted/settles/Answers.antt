@@ -6,8 +6,9 @@ use Rattle.j39_application.proofs.letter.Posted.settles.Goals as goal
 
 pub returns-in-Some-clause-meets : goal.returns-in-Some-clause-meets
 returns-in-Some-clause-meets c =
-    is_met (stamp_micros c.args.now) (letter_in c.args.self.now) c.in-Some.address c.hand_in.result c.settled_by.result c.args.controller.now
-    c.hand_in.new.controller c.in-Some.ensures.found c.hand_in.ensures.way c.hand_in.ensures.goes c.settled_by.ensures
+    is_met (stamp_micros c.args.now) (letter_in c.args.self.now) c.in-Some.address c.hand_in-answer.result c.settled_by-settled.result
+    c.args.controller.now c.hand_in-answer.new.controller c.in-Some.ensures.found c.hand_in-answer.ensures.way c.hand_in-answer.ensures.goes
+    c.settled_by-settled.ensures c.left_by-self.result c.left_by-self.ensures
 
 pub returns-then-self-eq0-clause-meets : goal.returns-then-self-eq0-clause-meets
 returns-then-self-eq0-clause-meets c =
