@@ -43,13 +43,30 @@ static int in_a_million(uint64_t parts) {
 /* ---- the bus: from each node to each other a queue, in order */
 
 static struct {
-    struct {
+    struct waiting {
         uint64_t due;
         j1939_frame frame;
-    } waiting[QUEUE];
+    } * waiting;
     uint64_t last;
     unsigned begin, end;
 } lines[NODES][NODES];
+
+/* So many bytes, each 0. */
+static void *room(size_t size) {
+    void *at = calloc(1, size);
+    EXPECT(at);
+    return at;
+}
+
+static int is_there(int node) {
+    return node < count || node == THIRD;
+}
+
+static void lays_lines(void) {
+    for (int from = 0; from < NODES; from++)
+        for (int to = 0; to < NODES; to++)
+            if (is_there(from) && is_there(to)) lines[from][to].waiting = room(QUEUE * sizeof(struct waiting));
+}
 
 static void put(int from, int to, const j1939_frame *frame) {
     uint64_t due = now + (delay ? next() % delay : 0);
@@ -72,6 +89,7 @@ static void put_to_others(int from, const j1939_frame *frame) {
 /* The next frame that comes to this node now. */
 static int comes(int to, j1939_frame *frame) {
     for (int from = 0; from < NODES; from++) {
+        if (!is_there(from)) continue;
         unsigned at = lines[from][to].begin % QUEUE;
         if (lines[from][to].begin == lines[from][to].end || lines[from][to].waiting[at].due > now) continue;
         *frame = lines[from][to].waiting[at].frame;
@@ -93,10 +111,17 @@ static uint32_t group_of(int32_t kind, int sender) {
 }
 
 enum { MOST = 1 << 22 };
-static uint8_t was_received[MOST_NODES][MOST_NODES][MOST / 8];
+static uint8_t *was_received;
+static uint32_t most; /* more than any serial number */
+
+/* The place of a bit for each receiver, sender and serial number. */
+static size_t place_of(int receiver, int sender, uint32_t serial) {
+    return ((size_t)receiver * (size_t)count + (size_t)sender) * most + serial;
+}
 
 static int has_received(int receiver, int sender, uint32_t serial) {
-    return was_received[receiver][sender][serial / 8] >> serial % 8 & 1;
+    size_t place = place_of(receiver, sender, serial);
+    return was_received[place / 8] >> place % 8 & 1;
 }
 
 /* Whether one of them has: who sends may not have heard the claim by which another holds the address now. */
@@ -167,13 +192,14 @@ static void receives(int self, int32_t kind, const j1939_message *message) {
     uint32_t serial = (uint32_t)(message->data[1] | message->data[2] << 8 | message->data[3] << 16);
     if (kind == J1939_RECEIVED_FRAME && message->pgn != SINGLES) return;
     if (message->source == 0x30) return;
-    EXPECT(message->len >= 4 && sender < count && sender != self && sent == kind && serial < MOST);
+    EXPECT(message->len >= 4 && sender < count && sender != self && sent == kind && serial < most);
     EXPECT(message->pgn == group_of(kind, sender));
     fill(bytes, message->len, kind, sender, serial);
     EXPECT(!memcmp(bytes, message->data, message->len));
     if (kind == J1939_RECEIVED_FRAME) return;
     EXPECT(!has_received(self, sender, serial));
-    was_received[self][sender][serial / 8] |= (uint8_t)(1 << serial % 8);
+    size_t place = place_of(self, sender, serial);
+    was_received[place / 8] |= (uint8_t)(1 << place % 8);
 }
 
 /* What was accepted under this token: of transfers one is open to each. */
@@ -467,6 +493,9 @@ int main(int words, char **word) {
     lost = numbers[2], doubled = numbers[3], delay = numbers[4], is_wild = numbers[5], state = numbers[6];
     count = (int)numbers[7];
     EXPECT(2 <= count && count <= MOST_NODES);
+    most = numbers[1] < MOST ? (uint32_t)numbers[1] + MOST_NODES : MOST;
+    was_received = room(place_of(count, 0, 0) / 8 + 1);
+    lays_lines();
     for (int i = 0; i < count; i++) opens(&nodes[i], 0x8000000001400001 + (uint64_t)i, (uint8_t)(0x80 + 0x10 * i));
     plays(numbers[1], numbers[8] * 1000000);
     uint64_t told[5] = {0}, failed = 0;
@@ -475,6 +504,8 @@ int main(int words, char **word) {
         failed += nodes[i].failed;
         EXPECT(j1939_controller_close(&nodes[i].controller) == 0);
     }
+    free(was_received);
+    for (int i = 0; i < NODES * NODES; i++) free(lines[i / NODES][i % NODES].waiting);
     printf("%" PRIu64 " seconds, frames taken %" PRIu64 ", broadcasts %" PRIu64 ", requests answered %" PRIu64 "\n",
            now / 1000000, told[J1939_ENDED_MESSAGE], told[J1939_ENDED_BROADCAST], told[J1939_ENDED_REQUEST]);
     printf("transfers %" PRIu64 " failed %" PRIu64 "\n", told[J1939_ENDED_TRANSFER] + failed, failed);
