@@ -1,6 +1,7 @@
 //! What a controller is told to do.
-ghost use Rattle.std.specs.Prelude.{◌≡◌};
+ghost use Rattle.std.specs.Prelude.{◌≡◌, ◌∷◌, []};
 ghost use Rattle.bus_demo.specs.Scenario.{member, member_of};
+ghost use Rattle.bus_demo.specs.declared.bus.gauges.Group.TheVariants.{Distance, Engine, Temperatures};
 
 use crate::bus::diagnostics::Fault;
 use crate::bus::gauges::Group;
@@ -60,15 +61,25 @@ impl Role {
 }
 
 /// The rates of the three groups, by their periods in microseconds.
-pub fn rates(engine: u64, temperatures: u64, distance: u64) -> [Rate; 3] {
-    let rate = |group: Group, period: u64| Rate {
+pub fn rates(engine: u64, temperatures: u64, distance: u64) -> [Rate; 3]
+    ensures { result ≡ record { group = Engine; period = engine; due = 0 }
+        ∷ record { group = Temperatures; period = temperatures; due = 0 }
+        ∷ record { group = Distance; period = distance; due = 0 } ∷ [] }
+{
+    [
+        sent_each(Group::Engine, engine),
+        sent_each(Group::Temperatures, temperatures),
+        sent_each(Group::Distance, distance),
+    ]
+}
+
+/// A group whose first message is due at once.
+fn sent_each(group: Group, period: u64) -> Rate
+    ensures { result ≡ record { group = group; period = period; due = 0 } }
+{
+    Rate {
         group,
         period,
         due: 0,
-    };
-    [
-        rate(Group::Engine, engine),
-        rate(Group::Temperatures, temperatures),
-        rate(Group::Distance, distance),
-    ]
+    }
 }
