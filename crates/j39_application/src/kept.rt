@@ -5,6 +5,7 @@ ghost use Rattle.j39_frame.specs.Stamp.{stamp_micros};
 ghost use Rattle.j39_transfers.specs.Transfers.{listed, sooner};
 ghost use Rattle.j39_application.specs.Kept.{soonest, stays, views};
 
+use j39_boxes::remove;
 use j39_frame::Stamp;
 use j39_node::Controller;
 use std::alloc::{AllocError, Global};
@@ -137,7 +138,7 @@ impl<T: Waits> Kept<T> {
         ensures counts { length self.new.current.items + length (listed result) ≡ length self.old.current.items }
         ensures stays { (self.new.boxes ≡ self.old.boxes) × (self.new.moment ≡ self.old.moment) }
     {
-        let mut first = self.current.remove(0);
+        let mut first = remove(&mut self.current, 0);
         let end = first.turn(controller, now);
         if end.is_some() {
             self.free.push_reserved(first);

@@ -21,6 +21,7 @@ use crate::controller::sooner;
 use crate::own::{Own, TRANSPORT_CONTROL, TRANSPORT_DATA};
 use arrayvec::ArrayVec;
 use j39_address::{Claims, Name};
+use j39_boxes::remove;
 use j39_frame::{Frame, GLOBAL_ADDRESS, NULL_ADDRESS, Pgn, Stamp};
 use j39_transport::{LONGEST, Message, SHORTEST};
 use std::alloc::{AllocError, Global};
@@ -219,7 +220,7 @@ impl Hearing {
         let most = usize::from(boxes);
         let mut free = Vec::with_capacity(alloc, most)?;
         for _ in 0..most {
-            put(&mut free, Box::new(alloc, Assembly::unused())?);
+            free.push_reserved(Box::new(alloc, Assembly::unused())?);
         }
         Ok(Hearing {
             current: Vec::with_capacity(alloc, most)?,
@@ -236,7 +237,7 @@ impl Hearing {
         ensures whole { self.new.whole ≡ self.old.whole }
     {
         while let Some(heard) = self.current.pop() {
-            put(&mut self.free, heard);
+            self.free.push_reserved(heard);
         }
         self.missed = 0;
     }
@@ -262,8 +263,8 @@ impl Hearing {
     {
         let before = self.current.len();
         while let Some(place) = self.over(gone, holders, time) {
-            let heard = self.current.remove(place);
-            put(&mut self.free, heard);
+            let heard = remove(&mut self.current, place);
+            self.free.push_reserved(heard);
         }
         let over = before - self.current.len();
         self.missed = self.missed.saturating_add(over as u64);
@@ -366,8 +367,8 @@ impl Hearing {
         if self.whole.is_empty() {
             return false;
         }
-        let heard = self.whole.remove(0);
-        put(&mut self.free, heard);
+        let heard = remove(&mut self.whole, 0);
+        self.free.push_reserved(heard);
         true
     }
 
@@ -388,7 +389,7 @@ impl Hearing {
         ensures room { IsSome result → vec_capacity self.new.current ≡ vec_capacity self.old.current }
     {
         let place = self.place(source)?;
-        Some(self.current.remove(place))
+        Some(remove(&mut self.current, place))
     }
 
     /// The place of the open one of a source.
@@ -422,7 +423,7 @@ impl Hearing {
             Some(mut heard) => {
                 self.miss();
                 if is_ignored {
-                    put(&mut self.free, heard);
+                    self.free.push_reserved(heard);
                     return true;
                 }
                 let since = heard.since;
@@ -479,7 +480,7 @@ impl Hearing {
             };
         };
         if heard.is_gap(frame) {
-            put(&mut self.free, heard);
+            self.free.push_reserved(heard);
             self.miss();
             return Outcome {
                 is_missed: true,
@@ -508,10 +509,10 @@ impl Hearing {
     {
         if heard.is_whole() {
             let made = Some((heard.source, heard.group.raw()));
-            put(&mut self.whole, heard);
+            self.whole.push_reserved(heard);
             made
         } else {
-            put(&mut self.current, heard);
+            self.current.push_reserved(heard);
             None
         }
     }
@@ -527,15 +528,6 @@ fn source_in(frame: &Frame) -> u8
     ensures { result ≡ source_of frame.now.id }
 {
     frame.id.source()
-}
-
-/// Puts a box behind the others; room was made for it.
-fn put(boxes: &mut Vec<Box<Assembly>>, heard: Box<Assembly>)
-    requires { length boxes.old.items < vec_capacity boxes.old }
-    ensures items { boxes.new.items ≡ boxes.old.items ++ heard ∷ [] }
-    ensures room { vec_capacity boxes.old ≤ vec_capacity boxes.new }
-{
-    let _fits = boxes.push(heard);
 }
 
 /// A frame that announces a message to all: of 9 to 1,785 bytes, in as many packets as it takes.

@@ -51,7 +51,7 @@ impl Open {
         ensures value { (w : Who) → result ≡ packets_of (opened w self.now).1 }
         ensures most { result ≤ 255 }
     {
-        ((self.bytes.len() + 6) / 7) as u16
+        ((self.bytes.len() as u32 + 6) / 7) as u16
     }
 
     /// Frame `count` of it; `None` past its last.

@@ -18,6 +18,7 @@ ghost use Rattle.j39_sessions.specs.Seats.{IsOpenAt, bytes_of, in_box, session_w
 use crate::seat::Seat;
 use arrayvec::ArrayVec;
 use j39_address::{Claims, Name};
+use j39_boxes::remove;
 use j39_frame::{Frame, NULL_ADDRESS, Pgn, Stamp, is_address};
 use j39_transport::{Message, Receiver};
 use std::alloc::{AllocError, Global};
@@ -83,7 +84,7 @@ impl Sessions {
         let mut free = Vec::with_capacity(alloc, count)?;
         for _ in 0..count {
             if let Some(seat) = Seat::new(alloc, own)? {
-                put(&mut free, Box::new(alloc, seat)?);
+                free.push_reserved(Box::new(alloc, seat)?);
             }
         }
         Ok(Some(Sessions {
@@ -129,7 +130,7 @@ impl Sessions {
     {
         let count = self.current.len();
         for _ in 0..count {
-            let mut seat = self.current.remove(0);
+            let mut seat = remove(&mut self.current, 0);
             let source = seat.source();
             let said = seat.tick(now);
             self.reply(source, said);
@@ -143,9 +144,9 @@ impl Sessions {
         ensures { sessions_of self.new ≡ leaves gone (holder_in holders.now) (sessions_of self.old) }
     {
         while let Some(place) = self.left(gone, holders) {
-            let seat = self.current.remove(place);
+            let seat = remove(&mut self.current, place);
             self.silence(seat.source());
-            put(&mut self.free, seat);
+            self.free.push_reserved(seat);
         }
     }
 
@@ -154,7 +155,7 @@ impl Sessions {
         ensures { sessions_of self.new ≡ loses (sessions_of self.old) }
     {
         while let Some(seat) = self.current.pop() {
-            put(&mut self.free, seat);
+            self.free.push_reserved(seat);
         }
         self.replies.clear();
     }
@@ -210,8 +211,8 @@ impl Sessions {
         if self.whole.is_empty() {
             return false;
         }
-        let seat = self.whole.remove(0);
-        put(&mut self.free, seat);
+        let seat = remove(&mut self.whole, 0);
+        self.free.push_reserved(seat);
         true
     }
 
@@ -295,7 +296,7 @@ impl Sessions {
         ensures room { IsSome result → vec_capacity self.new.current ≡ vec_capacity self.old.current }
     {
         let place = self.place(source)?;
-        Some(self.current.remove(place))
+        Some(remove(&mut self.current, place))
     }
 
     /// The place of the session of a source.
@@ -322,7 +323,7 @@ impl Sessions {
         self.reply(frame.id.source(), outcome.says);
         if outcome.is_whole {
             let made = Some((seat.kept.source, seat.kept.group.raw()));
-            put(&mut self.whole, seat);
+            self.whole.push_reserved(seat);
             return made;
         }
         self.settle(seat);
@@ -342,9 +343,9 @@ impl Sessions {
         ensures stays { (self.new.whole ≡ self.old.whole) × (self.new.own ≡ self.old.own) }
     {
         if seat.is_open() {
-            put(&mut self.current, seat);
+            self.current.push_reserved(seat);
         } else {
-            put(&mut self.free, seat);
+            self.free.push_reserved(seat);
         }
     }
 
@@ -390,15 +391,6 @@ impl Sessions {
     {
         self.replies.retain(|said| address != said.to);
     }
-}
-
-/// Puts a box behind the others; room was made for it.
-fn put(boxes: &mut Vec<Box<Seat>>, seat: Box<Seat>)
-    requires { length boxes.old.items < vec_capacity boxes.old }
-    ensures items { boxes.new.items ≡ boxes.old.items ++ seat ∷ [] }
-    ensures room { vec_capacity boxes.old ≤ vec_capacity boxes.new }
-{
-    let _fits = boxes.push(seat);
 }
 
 /// Whether a frame is one of sessions from an address to this one.

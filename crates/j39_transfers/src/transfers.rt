@@ -16,6 +16,7 @@ ghost use Rattle.j39_transfers.specs.Transfers.{sender_of, answer, awake, begins
 use crate::kinds::{Ending, Outgoing, Refused};
 use crate::running::{Rest, Running};
 use j39_address::{Claims, Name};
+use j39_boxes::remove;
 use j39_frame::{Frame, Id, Pgn, Stamp, is_address};
 use j39_transport::SenderInPlace;
 use std::alloc::{AllocError, Global};
@@ -71,7 +72,7 @@ impl Transfers {
         let count = usize::from(boxes);
         let mut free = Vec::with_capacity(alloc, count)?;
         for _ in 0..count {
-            put(&mut free, Box::new(alloc, Running::blank())?);
+            free.push_reserved(Box::new(alloc, Running::blank())?);
         }
         Ok(Some(Transfers {
             own,
@@ -107,7 +108,7 @@ impl Transfers {
         }
         let mut running = self.free.pop().ok_or(Refused::Full)?;
         running.begin(sender, message, name, now);
-        put(&mut self.current, running);
+        self.current.push_reserved(running);
         Ok(())
     }
 
@@ -132,9 +133,9 @@ impl Transfers {
         ensures sent { transfers_of self.new ≡ sends (stamp_micros now) (transfers_of self.old) }
     {
         if let Some(place) = self.turn(now) {
-            let mut first = self.current.remove(place);
+            let mut first = remove(&mut self.current, place);
             first.sent(now);
-            put(&mut self.current, first);
+            self.current.push_reserved(first);
         }
     }
 
@@ -155,10 +156,10 @@ impl Transfers {
         ensures ends { transfers_of self.new ≡ tells (transfers_of self.old) }
     {
         let place = self.over()?;
-        let running = self.current.remove(place);
+        let running = remove(&mut self.current, place);
         let ended = running.ended();
         rest(&mut self.resting, running.rest());
-        put(&mut self.free, running);
+        self.free.push_reserved(running);
         ended
     }
 
@@ -334,15 +335,6 @@ fn rest(resting: &mut Vec<Rest>, rest: Option<Rest>)
     ensures room { vec_capacity resting.old ≤ vec_capacity resting.new }
 {
     if let Some(rest) = rest {
-        let _fits = resting.push(rest);
+        resting.push_reserved(rest);
     }
-}
-
-/// Puts a box behind the others; room was made for it.
-fn put(boxes: &mut Vec<Box<Running>>, running: Box<Running>)
-    requires { length boxes.old.items < vec_capacity boxes.old }
-    ensures items { boxes.new.items ≡ boxes.old.items ++ running ∷ [] }
-    ensures room { vec_capacity boxes.old ≤ vec_capacity boxes.new }
-{
-    let _fits = boxes.push(running);
 }

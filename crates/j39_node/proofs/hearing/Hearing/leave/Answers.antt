@@ -14,7 +14,7 @@ loop-place-preserved c =
     let at = position-Some (λ b. p (in_box b)) xs k c.remove-heard.result (sym c.over.ensures ∙ c.in-Some.is) in
     let current = ap length c.remove-heard.ensures.items in
     let less = length-remove xs k at.0 in
-    let free = ap length c.put.ensures.items ∙ length-append c.loop-place.self.free.items (c.remove-heard.result ∷ []) in
+    let free = ap length c.push_reserved.ensures.items ∙ length-append c.loop-place.self.free.items (c.remove-heard.result ∷ []) in
     let all = c.loop-place.invariant.1 in (
       ap (λ ys. stay c.args.gone (holder_in c.args.holders.now) (stamp_micros c.args.time) (map in_box ys)) c.remove-heard.ensures.items
           ∙ (without_one p in_box xs k c.remove-heard.result at.0 at.1 ∙ c.loop-place.invariant.0),

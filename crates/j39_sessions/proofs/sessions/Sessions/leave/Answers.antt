@@ -20,7 +20,7 @@ loop-place-preserved c =
     let said = ap (λ (s : SessionsRecord). s.replies) c.silence.ensures.without ∙ ap (λ (a : ℕ). without a (map said_by c.loop-place.self.replies.items)) source in
     let current = ap length items in
     let less = length-remove xs k at.0 in
-    let free = ap length (c.put.ensures.items ∙ ap (λ (s : Sessions). s.free.items ++ b ∷ []) stays) ∙ length-append c.loop-place.self.free.items (b ∷ []) in
+    let free = ap length (c.push_reserved.ensures.items ∙ ap (λ (s : Sessions). s.free.items ++ b ∷ []) stays) ∙ length-append c.loop-place.self.free.items (b ∷ []) in
     let all = c.loop-place.invariant.2 in (
       ap (λ ys. filter (λ x. not (p x)) (map in_box ys)) items ∙ (stay_without p in_box xs k b at.0 at.1 ∙ c.loop-place.invariant.0),
       (λ i. unsaid (filter p (map in_box (items i))) (said i))

@@ -22,14 +22,14 @@ returns-then-outcome-clause-taken c = λ o e.
     let a = c.source.ensures ∙ ap (λ (g : FrameRecord). source_of g.id) c.frame.view_is in
     let b : Box Seat Global = record { ptr = c.args.seat.ptr; alloc = c.args.seat.alloc; value = c.hear-outcome.new.self } in
     let name = ap (option_map name_raw) (c.hear-outcome.ensures.stays.1 ∙ ap (λ (s : Seat). s.name) v) in
-    let whole = c.put.ensures.items ∙ ap (λ (s : Sessions). s.whole.items ++ b ∷ []) stays in
+    let whole = c.push_reserved.ensures.items ∙ ap (λ (s : Sessions). s.whole.items ++ b ∷ []) stays in
     let n = ap length whole ∙ length-append old.whole.items (b ∷ []) in
     let k = ap (λ (s : Sessions). length s.current.items) stays in
     let m = ap (λ (s : Sessions). length s.free.items) stays in
     (λ i. (let z : SessionsRecord = record {
       own = (ap (λ (s : Sessions). s.own) stays) i;
       most = (ap (λ (s : Sessions). s.most) stays) i;
-      boxes = (let q : length c.reply.new.self.current.items + length c.put.new.boxes.items + length c.reply.new.self.free.items
+      boxes = (let q : length c.reply.new.self.current.items + length c.push_reserved.new.self.items + length c.reply.new.self.free.items
           ≡ length old.current.items + length old.whole.items + length old.free.items + 1 = omega (arith, n, k, m) in q) i;
       sessions = map in_box (ap (λ (s : Sessions). s.current.items) stays i);
       waits = (ap (map kept_in) whole ∙ map-append kept_in old.whole.items (b ∷ [])) i;

@@ -12,7 +12,7 @@ returns-in-Some c =
     let p = placed in_box q b items c.in-Some.place (sym c.in-Some.is ∙ c.turn.ensures) in
     let e = c.sent.ensures
     ∙ (ap (λ (r : Running). sends_in now (transfer_in r)) c.deref_mut.ensures.value ∙ ap (λ b. sends_in now (in_box b)) c.remove-first.ensures.value) in
-    let all = ap (map in_box) c.put.ensures.items ∙ map-append in_box c.remove-first.new.self.items _ in
+    let all = ap (map in_box) c.push_reserved.ensures.items ∙ map-append in_box c.remove-first.new.boxes.items _ in
     record {
       sent =
           ap (λ (xs : List Transfer). (let s : TransfersRecord = record (transfers_of c.args.self.now) { running = xs } in s))

@@ -1,0 +1,2 @@
+-- one taken out of a list, by exchanges of neighbours
+pub mod CarryLemmas
