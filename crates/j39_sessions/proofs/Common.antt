@@ -24,7 +24,7 @@ unfoldable pub use Rattle.j39_transport.specs.Reception.{asks_again, begun, deli
 pub use Rattle.j39_transport.specs.Signals.{Abort, Signal}
 unfoldable pub use Rattle.j39_transport.specs.Signals.{broadcast_in, control_in, packet_in as packed_in, request_in, said_between, written}
 pub use Rattle.j39_sessions.specs.Sessions.{said, fewest, is_request, narrowed, AreApart, reply_to, earliest, from, has_room, hears, is_left, is_of, is_of_session, is_open, is_over, is_same, leaves, limit_in, listed, longest, loses, made, name_by, none_of, number_in, of, others, put_in, receiving, releases, replied, replies_ticked, Reply, says, Session, session_by, session_ticked, sessions_ticked, SessionsRecord, shown, since_by, sooner, step_at, step_in, stepped, strays, tick_of, ticks, unsaid, without}
-pub use Rattle.j39_sessions.specs.Seats.{blank, bytes_of, in_box, IsOpenAt, kept_by, kept_in, or_blank, Receives, sender_in, session_in, session_with}
+pub use Rattle.j39_sessions.specs.Seats.{blank, bytes_of, in_box, IsOpenAt, kept_in, lent_in, Lends, or_blank, Receives, sender_in, session_in, session_with}
 pub use Rattle.j39_sessions.specs.Shown.{said_by, sessions_of}
 pub use Rattle.j39_sessions.specs.Events.{after, delivered, Event, heard, Hears, Leaves, Loses, released, Releases, Says, step, ticked_of, Ticks}
 pub use Rattle.j39_transport.specs.ReceiverStands.{AreReceived, IsReceived, WasHanded, WereHanded}

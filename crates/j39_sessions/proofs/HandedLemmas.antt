@@ -5,7 +5,7 @@ use Rattle.j39_transport.specs.Frames.{packets_for}
 use Rattle.j39_transport.specs.ReceiverStands.{AreJoined, passed}
 use Rattle.j39_transport.specs.Session.{SessionRecord}
 use Rattle.j39_transport.specs.Signals.{RequestToSend}
-use Rattle.j39_transport.proofs.Handed.{has_heard, stands_still, were_handed}
+use Rattle.j39_transport.proofs.Handed.{stands_more, stands_still, were_handed}
 use Rattle.j39_sessions.proofs.LawLemmas.{own_is}
 use Rattle.j39_sessions.proofs.StepLemmas.{hushed, quiet_step, refusing, said_narrowed, said_shown, with_most}
 
@@ -41,11 +41,7 @@ unfolding recv_step
 handed_frame own F o f now found h =
     let r : ReceiverRecord = record { own = own; session = o } in
     record {
-      session = (has_heard (record { state = r; has_box = false }) f now (answer_in (recv_step r (Heard f) now found)) (record { state = (recv_step r (Heard f) now found).after; has_box = has_some (recv_step r (Heard f) now found).after.session || false }) (record {
-        step = record { found = found; after = refl; answers = refl };
-        finds = λ z. absurd (cc);
-        box_is = refl;
-      })).stands F h;
+      session = stands_more F r f now found h;
       delivers = were_handed F r f now found (answer_in (recv_step r (Heard f) now found)) refl h;
     }
 

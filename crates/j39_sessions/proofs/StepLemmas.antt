@@ -5,7 +5,6 @@ use Rattle.j39_transport.specs.Frames as frames
 use Rattle.j39_transport.specs.Frames.{names_message}
 use Rattle.j39_transport.specs.Signals.{RequestToSend, said_by as says_by}
 use Rattle.j39_sessions.proofs.BoxLemmas.{none_other}
-use Rattle.j39_sessions.specs.declared.seat.Kept.{Kept}
 use Rattle.j39_sessions.specs.declared.seat.Seat.{Seat}
 use Rattle.j39_sessions.specs.declared.sessions.Said.{Said}
 
@@ -32,17 +31,17 @@ unfolding recv_step takes_signal
 quiet_step r f now found e = ap (λ s. result_of r.own (frames.source_of f.id) (takes_signal (Directed (frames.source_of f.id) r.own) s now found r.session)) e
 
 -- a packet that strays isn't shown to the receiver
-pub stray_heard : (r : BoxedReceiver) (most : ℕ) (f : FrameRecord) (now : ℕ) (kept : Kept) → r.has_box ≡ true → strays (number_in (said_to r.state.own f)) r.state.session ≡ true
-    → Receives r (shown r.state.own most r.state.session f) now (record { says = None; is_whole = false }) kept r
-stray_heard r most f now kept box e =
+pub stray_heard : (r : BoxedReceiver) (most : ℕ) (f : FrameRecord) (now : ℕ) → r.has_box ≡ true → strays (number_in (said_to r.state.own f)) r.state.session ≡ true
+    → Receives r (shown r.state.own most r.state.session f) now (record { says = None; made = None }) r
+stray_heard r most f now box e =
     let q = quiet_step r.state (shown r.state.own most r.state.session f) now true
     (ap (λ (b : Bool). said_to r.state.own (record { stamp = f.stamp; id = f.id; bytes = if b then [] else narrowed most f })) e ∙ hushed r.state.own f.stamp f.id) in
     record {
       state = sym (ap (λ (x : RecvResult). x.after) q);
       box = box;
       says = sym (ap (λ (x : RecvResult). bytes_of x.sends) q);
-      whole = sym (ap (λ (x : RecvResult). has_some x.delivers) q);
-      keeps = subst (λ (x : RecvResult). IfSome x.delivers (λ m. kept_by kept ≡ (f.stamp, m))) (sym q) tt;
+      made = sym (ap (λ (x : RecvResult). option_map (λ m. (m.source, m.pgn)) x.delivers) q);
+      lends = subst (λ (x : RecvResult). IfSome x.delivers (λ m. r.lent ≡ Some (now, m))) (sym q) tt;
     }
 
 -- ---- a step at a frame

@@ -3,15 +3,11 @@ use Rattle.std.specs.Prelude.{◌≡◌}
 use Rattle.std.specs.declared.boxed.Box.{Box}
 use Rattle.std.specs.Global.{Global}
 use Rattle.j39_transport.specs.Receiving.{BoxedReceiver}
-use Rattle.j39_transport.specs.Reception.{ReceptionRecord}
-use Rattle.j39_sessions.specs.Common.{[], false, FrameRecord, Heard, IfSome, is_there, IsSome, List, MessageRecord, name_raw, None, Option, option_map, pgn_raw, recv_step, Some, stamp_micros, ToSend, true, ℕ}
+use Rattle.j39_transport.specs.Reception.{message_of, ReceptionRecord}
+use Rattle.j39_sessions.specs.Common.{[], false, FrameRecord, Heard, IfSome, IsSome, List, MessageRecord, name_raw, None, Option, option_map, recv_step, Some, stamp_micros, ToSend, true, ℕ}
 use Rattle.j39_sessions.specs.Sessions.{Session, session_by}
-use Rattle.j39_sessions.specs.declared.seat.Kept.{Kept}
 use Rattle.j39_sessions.specs.declared.seat.Outcome.{Outcome}
 use Rattle.j39_sessions.specs.declared.seat.Seat.{Seat}
-
-abbrev pub kept_by : Kept → ℕ × MessageRecord
-kept_by x = (stamp_micros x.stamp, record { source = x.source; pgn = pgn_raw x.group; bytes = x.bytes.items })
 
 -- what stands for the session of a box in which none is open
 abbrev pub blank : ReceptionRecord
@@ -34,13 +30,13 @@ session_with x r = session_by (stamp_micros x.since) (option_map name_raw x.name
 abbrev pub bytes_of : Option ToSend → Option (List ℕ)
 bytes_of o = option_map (λ f. f.bytes) o
 
--- the receiver takes its step at a frame; what it says, and the message that it delivers, with the frame's moment
-pub record Receives (old : BoxedReceiver) (f : FrameRecord) (now : ℕ) (x : Outcome) (kept : Kept) (new : BoxedReceiver) : Type 0 where
+-- the receiver takes its step at a frame; what it says, and the message that it delivers, which lies there
+pub record Receives (old : BoxedReceiver) (f : FrameRecord) (now : ℕ) (x : Outcome) (new : BoxedReceiver) : Type 0 where
   pub state : new.state ≡ (recv_step old.state (Heard f) now true).after
   pub box : new.has_box ≡ true
   pub says : x.says ≡ bytes_of (recv_step old.state (Heard f) now true).sends
-  pub whole : x.is_whole ≡ is_there (recv_step old.state (Heard f) now true).delivers
-  pub keeps : IfSome (recv_step old.state (Heard f) now true).delivers (λ m. kept_by kept ≡ (f.stamp, m))
+  pub made : x.made ≡ option_map (λ m. (m.source, m.pgn)) (recv_step old.state (Heard f) now true).delivers
+  pub lends : IfSome (recv_step old.state (Heard f) now true).delivers (λ m. new.lent ≡ Some (now, m))
 
 -- the session in a box
 abbrev pub session_in : Seat → Session
@@ -49,9 +45,17 @@ session_in x = session_with x (or_blank x.receiver.state.session)
 abbrev pub in_box : Box Seat Global → Session
 in_box b = session_in b.value
 
--- the message in a box
+-- a message lies in a box
+abbrev pub Lends : Box Seat Global → Type 0
+Lends b = IsSome b.value.receiver.lent
+
+abbrev pub lent_in : Option (ℕ × MessageRecord) → MessageRecord
+lent_in None = message_of blank.message
+lent_in (Some x) = x.1
+
+-- this one, with the moment of its last packet
 abbrev pub kept_in : Box Seat Global → ℕ × MessageRecord
-kept_in b = kept_by b.value.kept
+kept_in b = (stamp_micros b.value.stamp, lent_in b.value.receiver.lent)
 
 abbrev pub sender_in : Box Seat Global → Option ℕ
 sender_in b = option_map name_raw b.value.name

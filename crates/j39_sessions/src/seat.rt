@@ -6,18 +6,17 @@ ghost use Rattle.j39_address.specs.Name.{name_raw};
 ghost use Rattle.j39_frame.specs.Address.{IsAddress};
 ghost use Rattle.j39_frame.specs.Stamp.{stamp_micros};
 ghost use Rattle.j39_transport.specs.Cutting.{to_send};
-ghost use Rattle.j39_transport.specs.ReceiverModel.{message_shown};
 ghost use Rattle.j39_transport.specs.Receiving.{new_receiver, said_to};
 ghost use Rattle.j39_transport.specs.Signals.{Abort, written};
 ghost use Rattle.j39_frame.specs.Pgn.{pgn_raw};
 ghost use Rattle.j39_sessions.specs.Sessions.{fewest, from, is_left, is_of, limit_in, longest, narrowed, number_in, shown, strays, tick_of};
+ghost use Rattle.j39_sessions.specs.Seats.{Receives};
 
 use crate::sessions::is_same;
-use arrayvec::ArrayVec;
 use byteorder::{ByteOrder, LittleEndian};
 use j39_address::{Claims, Name};
 use j39_frame::{Frame, NULL_ADDRESS, Pgn, Stamp};
-use j39_transport::{LONGEST, Message, Receiver, Reply};
+use j39_transport::{Receiver, Reply};
 use std::alloc::{AllocError, Global};
 
 /// The longest wait of the two ends, in microseconds (T2 of J1939-21, 5.10.2.4).
@@ -26,78 +25,19 @@ const T2: u64 = 1_250_000;
 /// The first byte of an RTS.
 const REQUEST_TO_SEND: u8 = 16;
 
-/// A message that was whole.
-#[derive(Drop)]
-pub(crate) struct Kept {
-    /// First: so an empty one is written where it stays.
-    pub(crate) bytes: ArrayVec<u8, LONGEST>,
-    /// The moment of its last packet.
-    pub(crate) stamp: Stamp,
-    pub(crate) source: u8,
-    pub(crate) group: Pgn,
-}
-
-impl Kept {
-    ghost use Rattle.j39_sessions.specs.Seats.{Receives, kept_by};
-
-    #[inline(always)]
-    fn empty() -> Kept {
-        Kept {
-            bytes: ArrayVec::new(),
-            stamp: Stamp::new(0).unwrap(),
-            source: 0,
-            group: Pgn::new(0).unwrap(),
-        }
-    }
-
-    /// Keeps a message, whose bytes are copied to where they stay.
-    fn keep(&mut self, message: &Message<'_>, stamp: Stamp)
-        requires { length message.now.payload.now ≤ 1785 }
-        ensures { kept_by self.new ≡ (stamp_micros stamp, message_shown message.now) }
-    {
-        self.bytes.clear();
-        self.bytes.try_extend_from_slice(message.payload).unwrap();
-        self.stamp = stamp;
-        self.source = message.source;
-        self.group = message.pgn;
-    }
-
-    /// What a receiver says to a frame; its message is kept where it is whole.
-    fn receive(&mut self, receiver: &mut Receiver, frame: &Frame, now: Stamp) -> Outcome
-        ensures { receiver.old.has_box ≡ true → Receives receiver.old frame.now (stamp_micros now) result self.new receiver.new }
-    {
-        match receiver.on(frame, now) {
-            Reply::Nothing => Outcome {
-                says: None,
-                is_whole: false,
-            },
-            Reply::Send(_id, bytes) => Outcome {
-                says: Some(bytes),
-                is_whole: false,
-            },
-            Reply::Delivered(message, _id, bytes) => {
-                self.keep(&message, frame.stamp);
-                Outcome {
-                    says: Some(bytes),
-                    is_whole: true,
-                }
-            }
-        }
-    }
-}
-
-/// What a box says to a frame, and whether its message is whole.
+/// What a box says to a frame, and the source and the group of the message that is whole by it.
 #[derive(Clone, Copy)]
 pub(crate) struct Outcome {
     pub(crate) says: Option<[u8; 8]>,
-    pub(crate) is_whole: bool,
+    pub(crate) made: Option<(u8, u32)>,
 }
 
-/// A receiver with its buffer, and the message that it received.
+/// A receiver with its buffer, in which its message stays when it is whole.
 #[derive(Drop)]
 pub(crate) struct Seat {
-    pub(crate) kept: Kept,
     pub(crate) receiver: Receiver,
+    /// The stamp of the frame that it heard last.
+    pub(crate) stamp: Stamp,
     /// The time since which the source of its session has one open.
     pub(crate) since: Stamp,
     /// The NAME that held its source then.
@@ -106,7 +46,7 @@ pub(crate) struct Seat {
 }
 
 impl Seat {
-    ghost use Rattle.j39_sessions.specs.Seats.{Receives, bytes_of, session_in};
+    ghost use Rattle.j39_sessions.specs.Seats.{bytes_of, session_in};
 
     /// A box at an address, in which nothing was begun; `None` above 253.
     #[inline(always)]
@@ -118,8 +58,8 @@ impl Seat {
             return Ok(None);
         };
         Ok(Some(Seat {
-            kept: Kept::empty(),
             receiver,
+            stamp: Stamp::new(0).unwrap(),
             since: Stamp::new(0).unwrap(),
             name: None,
         }))
@@ -142,18 +82,20 @@ impl Seat {
     pub(crate) fn hear(&mut self, most: u8, frame: &Frame, now: Stamp) -> Outcome
         requires { length frame.now.bytes ≡ 8 }
         ensures heard { Receives self.old.receiver (shown self.old.receiver.state.own most self.old.receiver.state.session frame.now) (stamp_micros now)
-            result self.new.kept self.new.receiver }
+            result self.new.receiver }
+        ensures stamp { stamp_micros self.new.stamp ≡ frame.now.stamp }
         ensures stays { (self.new.since ≡ self.old.since) × (self.new.name ≡ self.old.name) }
     {
+        self.stamp = frame.stamp;
         if self.strays(frame) {
             return Outcome {
                 says: None,
-                is_whole: false,
+                made: None,
             };
         }
         match narrowed(most, frame) {
-            Some(shown) => self.kept.receive(&mut self.receiver, &shown, now),
-            None => self.kept.receive(&mut self.receiver, frame, now),
+            Some(shown) => receive(&mut self.receiver, &shown, now),
+            None => receive(&mut self.receiver, frame, now),
         }
     }
 
@@ -250,6 +192,26 @@ impl Seat {
             Some(group) => group,
             None => Pgn::new(0).unwrap(),
         }
+    }
+}
+
+/// What a receiver says to a frame, and which message it delivers.
+fn receive(receiver: &mut Receiver, frame: &Frame, now: Stamp) -> Outcome
+    ensures { receiver.old.has_box ≡ true → Receives receiver.old frame.now (stamp_micros now) result receiver.new }
+{
+    match receiver.on(frame, now) {
+        Reply::Nothing => Outcome {
+            says: None,
+            made: None,
+        },
+        Reply::Send(_id, bytes) => Outcome {
+            says: Some(bytes),
+            made: None,
+        },
+        Reply::Delivered(message, _id, bytes) => Outcome {
+            says: Some(bytes),
+            made: Some((message.source, message.pgn.raw())),
+        },
     }
 }
 

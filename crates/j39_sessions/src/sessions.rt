@@ -13,7 +13,7 @@ ghost use Rattle.j39_transport.specs.Cutting.{ToSend};
 ghost use Rattle.j39_transport.specs.ReceiverModel.{message_shown};
 ghost use Rattle.j39_transport.specs.Receiving.{new_receiver};
 ghost use Rattle.j39_sessions.specs.Sessions.{earliest, from, hears, is_left, is_of, is_same, is_of_session, is_open, leaves, limit_in, listed, loses, made, none_of, of, others, put_in, releases, replied, says, session_by, sooner, step_at, ticks, without, Session};
-ghost use Rattle.j39_sessions.specs.Seats.{IsOpenAt, bytes_of, in_box, session_with};
+ghost use Rattle.j39_sessions.specs.Seats.{IsOpenAt, Lends, bytes_of, in_box, session_with};
 
 use crate::seat::Seat;
 use arrayvec::ArrayVec;
@@ -62,6 +62,7 @@ pub struct Sessions {
     pub ghost address: { IsAddress own },
     pub ghost refuses: { refuser.state ≡ new_receiver own },
     pub ghost opened: { All (IsOpenAt own) current.items },
+    pub ghost lent: { All Lends whole.items },
     pub ghost current_fits: { length current.items + length whole.items + length free.items ≤ vec_capacity current },
     pub ghost whole_fits: { length current.items + length whole.items + length free.items ≤ vec_capacity whole },
     pub ghost free_fits: { length current.items + length whole.items + length free.items ≤ vec_capacity free },
@@ -70,7 +71,7 @@ pub struct Sessions {
 impl Sessions {
     ghost use Rattle.j39_sessions.specs.Shown.{sessions_of};
 
-    /// No session at an address, which grants at most so many packets at once (0 sets no limit), with memory for so many boxes, 3.7 kB
+    /// No session at an address, which grants at most so many packets at once (0 sets no limit), with memory for so many boxes, 1.9 kB
     /// each: no other call takes memory. `None` above 253, where nothing is taken; an error where memory is refused.
     pub fn new(alloc: Global, own: u8, most: u8, boxes: u8) -> Result<Option<Sessions>, AllocError>
         ensures known { IfOk result (λ found. IsSome found ↔ IsAddress own) }
@@ -189,10 +190,8 @@ impl Sessions {
     {
         let seat = self.whole.first()?;
         Some(Message {
-            source: seat.kept.source,
-            pgn: seat.kept.group,
-            payload: seat.kept.bytes.as_slice(),
-            stamp: seat.kept.stamp,
+            stamp: seat.stamp,
+            ..seat.receiver.delivered()?
         })
     }
 
@@ -321,10 +320,9 @@ impl Sessions {
     {
         let outcome = seat.hear(self.most, frame, now);
         self.reply(frame.id.source(), outcome.says);
-        if outcome.is_whole {
-            let made = Some((seat.kept.source, seat.kept.group.raw()));
+        if outcome.made.is_some() {
             self.whole.push_reserved(seat);
-            return made;
+            return outcome.made;
         }
         self.settle(seat);
         None

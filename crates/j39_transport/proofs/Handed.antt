@@ -155,12 +155,16 @@ unfolding recv_step
 were_handed E r f now found answer e h = subst (λ (a : ReceiverAnswer). WereHanded r.own (E ++ f ∷ []) a.delivers) (sym e) (fair_frame E r f now found h).delivers
 
 -- a receiver that was handed a frame stands for one frame more
+pub stands_more : (E : List FrameRecord) (r : ReceiverRecord) (f : FrameRecord) (now : ℕ) (found : Bool) → ReceiverStandsFor E r
+    → ReceiverStandsFor (E ++ f ∷ []) (recv_step r (Heard f) now found).after
+unfolding recv_step
+stands_more E r f now found h = (fair_frame E r f now found h).session
+
 pub has_heard : (old : BoxedReceiver) (f : FrameRecord) (now : ℕ) (answer : ReceiverAnswer) (new : BoxedReceiver)
     → HearStep old f now answer new → HasHeard old f now answer new
-unfolding recv_step
 has_heard old f now answer new s = record {
   takes = s;
-  stands = λ E h. subst (ReceiverStandsFor (E ++ f ∷ [])) (sym s.step.after) (fair_frame E old.state f now s.step.found h).session;
+  stands = λ E h. subst (ReceiverStandsFor (E ++ f ∷ [])) (sym s.step.after) (stands_more E old.state f now s.step.found h);
 }
 
 -- one that let time pass stands for the same frames

@@ -1,5 +1,5 @@
 -- What a receiver of the code shows.
-use Rattle.std.specs.Prelude.{◌≡◌, ◌<◌, ◌≤◌, ℕ, Bool, ◌||◌, Option, Some, None}
+use Rattle.std.specs.Prelude.{◌≡◌, ◌==◌, ◌<◌, ◌≤◌, ℕ, Bool, ◌||◌, if◌then◌else◌, Option, Some, None}
 use Rattle.std.specs.Option.{is_some, option_map}
 use Rattle.std.specs.declared.boxed.Box.{Box}
 use Rattle.std.specs.Global.{Global}
@@ -38,6 +38,13 @@ IsStep (Says a) r = r.message.count < r.message.packets
 IsStep (Aborts a) r = Unit {0}
 IsStep (Delivers a) r = r.message.count ≡ r.message.packets
 
+-- one that delivers had its last packet at this moment
+abbrev pub IsAt : ℕ → Step → ReceptionRecord → Type 0
+IsAt now Quiet r = Unit {0}
+IsAt now (Says a) r = Unit {0}
+IsAt now (Aborts a) r = Unit {0}
+IsAt now (Delivers a) r = r.message.last ≡ now
+
 -- ---- the buffers
 
 -- the open session, and the buffer that no session uses: that of the session last over, or a new one
@@ -57,26 +64,35 @@ IsOpen (Some r) = r.message.count < r.message.packets
 abbrev pub has_box : BuffersRecord → Bool
 has_box b = is_some b.session || is_some b.spare
 
+-- the whole message in a buffer, with the moment of its last packet
+abbrev pub lent_by : Option ReceptionRecord → Option (ℕ × MessageRecord)
+lent_by None = None
+lent_by (Some r) = if r.message.count == r.message.packets then Some (r.message.last, message_of r.message) else None
+
 -- what an event did, where the buffers are these afterwards
 abbrev pub reacted : Step → BuffersRecord → Reaction
 reacted Quiet b = quiet b.session
 reacted (Says a) b = answers b.session (said a)
 reacted (Aborts a) b = answers b.session (said a)
 reacted (Delivers a) b = record
-    { session = b.session; says = Some (said a); delivers = option_map (λ r. message_of r.message) b.spare }
+    { session = b.session; says = Some (said a); delivers = option_map (λ x. x.1) (lent_by b.spare) }
 
--- a message that is delivered stands in the session last over
-abbrev pub CanLend : Step → Option ReceptionRecord → Type 0
-CanLend Quiet spare = Unit {0}
-CanLend (Says a) spare = Unit {0}
-CanLend (Aborts a) spare = Unit {0}
-CanLend (Delivers a) None = ⊥
-CanLend (Delivers a) (Some r) = r.message.count ≡ r.message.packets
+-- a message that is delivered stands in the session last over, whole at this moment
+abbrev pub CanLend : ℕ → Step → Option ReceptionRecord → Type 0
+CanLend now Quiet spare = Unit {0}
+CanLend now (Says a) spare = Unit {0}
+CanLend now (Aborts a) spare = Unit {0}
+CanLend now (Delivers a) None = ⊥
+CanLend now (Delivers a) (Some r) = (r.message.count ≡ r.message.packets) × (r.message.last ≡ now)
 
 -- ---- answers
 
 abbrev pub message_shown : Message → MessageRecord
 message_shown m = record { source = m.source; pgn = pgn_raw m.pgn; bytes = m.payload.now }
+
+-- with its moment
+abbrev pub stamped : Message → ℕ × MessageRecord
+stamped m = (stamp_micros m.stamp, message_shown m)
 
 abbrev pub answer_of : Reply → ReceiverAnswer
 answer_of reply.Nothing = record { sends = None; delivers = None }

@@ -19,7 +19,9 @@ pub(crate) struct Announcement {
 
 impl Announcement {
     /// What stands in a buffer before its first message.
-    pub(crate) fn unused() -> Announcement {
+    pub(crate) fn unused() -> Announcement
+        ensures { result.packets ≡ 2 }
+    {
         Announcement {
             group: Pgn::new(0).unwrap(),
             size: 9,

@@ -15,7 +15,7 @@ ghost use Rattle.j39_transport.specs.Reception.{expects, takes_request, takes_da
 ghost use Rattle.j39_transport.specs.Receiving.{said_to, RecvStep, HearStep, Tick, Heard, recv_step, answer_in, result_of, new_receiver, partner_of};
 ghost use Rattle.j39_transport.specs.SessionModel.{opened_by};
 ghost use Rattle.j39_transport.specs.SignalModel.{said};
-ghost use Rattle.j39_transport.specs.ReceiverModel.{stepped, reacted, has_box, IsStep, CanLend, answer_of, IsStamped};
+ghost use Rattle.j39_transport.specs.ReceiverModel.{stepped, reacted, has_box, stamped, lent_by, IsAt, IsStep, CanLend, answer_of, IsStamped};
 
 use crate::announcement::Announcement;
 use crate::message::Message;
@@ -47,13 +47,14 @@ pub struct Receiver {
 impl Model for Receiver {
     ghost use Rattle.j39_frame.specs.Address.{IsAddress};
     ghost use Rattle.j39_transport.specs.Receiving.{BoxedReceiver};
-    ghost use Rattle.j39_transport.specs.ReceiverModel.{has_box};
+    ghost use Rattle.j39_transport.specs.ReceiverModel.{has_box, lent_by};
 
     ghost Value = { BoxedReceiver };
 
     ghost view = { λ r. record {
       state = record { own = r.own; session = r.buffers.session };
       has_box = has_box r.buffers;
+      lent = lent_by r.buffers.spare;
     } };
 
     ghost invariant = { λ r. IsAddress r.own };
@@ -66,7 +67,7 @@ impl Receiver {
     /// an RTS, and may be wanting there.
     pub fn new(alloc: Global, own: u8) -> Option<Receiver>
         ensures known { IsSome result ↔ IsAddress own }
-        ensures value { IfSome result (λ receiver. receiver ≡ record { state = new_receiver own; has_box = false }) }
+        ensures value { IfSome result (λ receiver. receiver ≡ record { state = new_receiver own; has_box = false; lent = None }) }
         ensures stands { IfSome result (λ receiver. ReceiverStandsFor [] receiver.state) }
     {
         if !is_address(own) {
@@ -88,7 +89,7 @@ impl Receiver {
     pub fn with_buffer(alloc: Global, own: u8) -> Result<Option<Receiver>, AllocError>
         ensures known { IfOk result (λ found. IsSome found ↔ IsAddress own) }
         ensures value { IfOk result (λ found. IfSome found (λ receiver.
-            receiver ≡ record { state = new_receiver own; has_box = true })) }
+            receiver ≡ record { state = new_receiver own; has_box = true; lent = None })) }
         ensures stands { IfOk result (λ found. IfSome found (λ receiver. ReceiverStandsFor [] receiver.state)) }
         ensures refused { OnErr result (IsAddress own) }
     {
@@ -140,7 +141,7 @@ impl Receiver {
         };
         let signal = said_to(self.own, frame);
         let step = self.buffers.take_signal(pair, signal, now);
-        self.buffers.lend(step, self.own, source, now)
+        self.buffers.lend(step, self.own, source)
     }
 
     /// Lets time pass, and answers the frame to send, if there is one: a CTS again, or abort 3.
@@ -273,6 +274,14 @@ impl Receiver {
         }
     }
 
+    /// The message that it delivered last, till its buffer is used again.
+    pub fn delivered(&self) -> Option<Message<'_>>
+        ensures value { option_map stamped result ≡ self.now.lent }
+        ensures short { IfSome result (λ message. length message.payload.now ≤ 1785) }
+    {
+        self.buffers.lent()
+    }
+
     /// Whether a session is open. A controller starts its next message to a receiver when this is
     /// false there.
     pub fn busy(&self) -> bool
@@ -299,7 +308,9 @@ fn said_to(own: u8, frame: &Frame) -> Option<Signal>
 type ReceptionBox = Option<Box<Reception>>;
 
 /// A buffer for a message: the one place where memory is taken.
-fn boxed(alloc: Global) -> Result<Box<Reception>, AllocError> {
+fn boxed(alloc: Global) -> Result<Box<Reception>, AllocError>
+    ensures { IfOk result (λ made. lent_by (Some made.value) ≡ None) }
+{
     Ok(Box::new(alloc, Reception::unused())?)
 }
 
@@ -360,7 +371,7 @@ impl Buffers {
         requires step { IsStep step session.value }
         ensures does { reacted step self.new ≡ stepped step session.value }
         ensures buffer { has_box self.new ≡ true }
-        ensures lends { CanLend step self.new.spare }
+        ensures lends { (now : ℕ) → IsAt now step session.value → CanLend now step self.new.spare }
     {
         match step {
             Step::Quiet => self.session = Some(session),
@@ -376,7 +387,7 @@ impl Buffers {
         ensures does { reacted result self.new
             ≡ takes_data source number part.now (stamp_micros now) self.old.session }
         ensures buffer { has_box self.new ≡ has_box self.old }
-        ensures lends { CanLend result self.new.spare }
+        ensures lends { CanLend (stamp_micros now) result self.new.spare }
     {
         match self.session.take() {
             None => Step::Quiet,
@@ -398,7 +409,7 @@ impl Buffers {
     fn take_abort(&mut self, source: u8, pgn: u32) -> Step
         ensures does { reacted result self.new ≡ takes_abort source pgn self.old.session }
         ensures buffer { has_box self.new ≡ has_box self.old }
-        ensures lends { CanLend result self.new.spare }
+        ensures lends { (now : ℕ) → CanLend now result self.new.spare }
     {
         match self.session.take() {
             None => Step::Quiet,
@@ -435,7 +446,7 @@ impl Buffers {
             ≡ takes_request (opened_by pair.from pair.to announcement (stamp_micros now)) most (stamp_micros now)
             (has_box self.new) self.old.session }
         ensures buffer { has_box self.new ≡ is_some self.new.session || has_box self.old }
-        ensures lends { CanLend result self.new.spare }
+        ensures lends { CanLend (stamp_micros now) result self.new.spare }
     {
         let group = announcement.group.raw();
         if self.is_taken(pair.from) {
@@ -459,7 +470,7 @@ impl Buffers {
             ≡ takes_signal (Directed pair.from pair.to) (option_map said signal) (stamp_micros now)
             (has_box self.new) self.old.session }
         ensures buffer { has_box self.new ≡ is_some self.new.session || has_box self.old }
-        ensures lends { CanLend result self.new.spare }
+        ensures lends { CanLend (stamp_micros now) result self.new.spare }
     {
         match signal {
             None => Step::Quiet,
@@ -490,36 +501,33 @@ impl Buffers {
         }
     }
 
+    /// The message of the session last over, if that was whole.
+    fn lent(&self) -> Option<Message<'_>>
+        ensures value { option_map stamped result ≡ lent_by self.now.spare }
+        ensures short { IfSome result (λ message. length message.payload.now ≤ 1785) }
+    {
+        match &self.spare {
+            Some(session) => session.whole(),
+            None => None,
+        }
+    }
+
     /// The answer, with a message that is delivered lent out of its buffer.
-    fn lend(&self, step: Step, own: u8, to: u8, now: Stamp) -> Reply<'_>
-        requires { CanLend step self.now.spare }
+    fn lend(&self, step: Step, own: u8, to: u8) -> Reply<'_>
         ensures answer { answer_of result ≡ answer_in (result_of own to (reacted step self.now)) }
-        ensures stamp { IsStamped (stamp_micros now) result }
+        ensures stamp { (now : ℕ) → CanLend now step self.now.spare → IsStamped now result }
         ensures short { IfSome (answer_of result).delivers (λ message. length message.bytes ≤ 1785) }
     {
-        match step {
-            Step::Quiet => Reply::Nothing,
-            Step::Says(signal) => {
-                let (id, bytes) = signal::write(signal, own, to);
-                Reply::Send(id, bytes)
-            }
-            Step::Aborts(signal) => {
-                let (id, bytes) = signal::write(signal, own, to);
-                Reply::Send(id, bytes)
-            }
-            Step::Delivers(signal) => match &self.spare {
-                Some(session) => {
-                    let (id, bytes) = signal::write(signal, own, to);
-                    let message = Message {
-                        source: session.source(),
-                        pgn: session.pgn(),
-                        payload: session.payload(),
-                        stamp: now,
-                    };
-                    Reply::Delivered(message, id, bytes)
-                }
-                None => Reply::Nothing,
-            },
+        let (signal, lent) = match step {
+            Step::Quiet => return Reply::Nothing,
+            Step::Says(signal) => (signal, None),
+            Step::Aborts(signal) => (signal, None),
+            Step::Delivers(signal) => (signal, self.lent()),
+        };
+        let (id, bytes) = signal::write(signal, own, to);
+        match lent {
+            Some(message) => Reply::Delivered(message, id, bytes),
+            None => Reply::Send(id, bytes),
         }
     }
 }

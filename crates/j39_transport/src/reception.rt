@@ -1,14 +1,16 @@
 //! One message that a receiver is receiving.
-ghost use Rattle.std.specs.Prelude.{◌≡◌, ◌<◌, ◌≤◌, ◌+◌, ◌^◌, length, take, Some};
+ghost use Rattle.std.specs.Prelude.{◌≡◌, ◌<◌, ◌≤◌, ◌+◌, ◌^◌, length, None, Some, IfSome};
+ghost use Rattle.std.specs.Option.{option_map};
 ghost use Rattle.j39_frame.specs.Pgn.{pgn_raw};
 ghost use Rattle.j39_frame.specs.Stamp.{stamp_micros};
 ghost use Rattle.j39_transport.specs.Reception.{begun, expects, most_named, granted_at, window, asks_again, goes_on, takes_packet, takes_tick, limit_of};
-ghost use Rattle.j39_transport.specs.ReceiverModel.{stepped, IsStep};
+ghost use Rattle.j39_transport.specs.ReceiverModel.{stepped, stamped, lent_by, IsAt, IsStep};
 ghost use Rattle.j39_transport.specs.SessionModel.{opened_by};
 ghost use Rattle.j39_transport.specs.SignalModel.{said};
 ghost use Rattle.j39_transport.specs.Signals.{ClearToSend};
 
 use crate::announcement::Announcement;
+use crate::message::Message;
 use crate::protocol::{NO_LIMIT, TIMEOUT, TIMER_T1, TIMER_T2};
 use crate::session::Session;
 use crate::signal::{Pair, Signal};
@@ -63,7 +65,9 @@ impl Model for Reception {
 
 impl Reception {
     /// A buffer in which no message was begun yet.
-    pub(crate) fn unused() -> Reception {
+    pub(crate) fn unused() -> Reception
+        ensures { lent_by (Some result) ≡ None }
+    {
         Reception {
             message: Session::new(
                 Pair { from: 0, to: 0 },
@@ -115,13 +119,20 @@ impl Reception {
         u16::from(number) == u16::from(self.message.count()) + 1 || number == self.granted
     }
 
-    /// The bytes of a whole message, without padding.
-    pub(crate) fn payload(&self) -> &[u8]
-        requires { self.now.message.count ≡ self.now.message.packets }
-        ensures value { result.now ≡ take self.now.message.size self.now.message.bytes }
-        ensures short { length result.now ≤ 1785 }
+    /// Its message, if that is whole.
+    pub(crate) fn whole(&self) -> Option<Message<'_>>
+        ensures value { option_map stamped result ≡ lent_by (Some self.now) }
+        ensures short { IfSome result (λ message. length message.payload.now ≤ 1785) }
     {
-        self.message.payload()
+        if self.message.count() != self.message.packets() {
+            return None;
+        }
+        Some(Message {
+            source: self.message.source(),
+            pgn: self.message.pgn(),
+            payload: self.message.payload(),
+            stamp: self.message.last(),
+        })
     }
 
     /// Grants the next packets: the CTS to send.
@@ -145,6 +156,7 @@ impl Reception {
         requires { self.old.message.count < self.old.message.packets }
         ensures step { stepped result self.new ≡ asks_again (stamp_micros now) self.old }
         ensures open { IsStep result self.new }
+        ensures at { IsAt (stamp_micros now) result self.new }
     {
         if self.asks == MOST_ASKS {
             Step::Aborts(Signal::Abort(TIMEOUT, self.message.pgn().raw()))
@@ -159,6 +171,7 @@ impl Reception {
     fn go_on(&mut self, now: Stamp) -> Step
         ensures step { stepped result self.new ≡ goes_on (stamp_micros now) self.old }
         ensures open { IsStep result self.new }
+        ensures at { IsAt self.old.message.last result self.new }
     {
         if self.message.count() == self.message.packets() {
             Step::Delivers(self.message.acknowledgment())
@@ -176,6 +189,7 @@ impl Reception {
         requires seven { length part.now ≡ 7 }
         ensures step { stepped result self.new ≡ takes_packet number part.now (stamp_micros now) self.old }
         ensures open { IsStep result self.new }
+        ensures at { IsAt (stamp_micros now) result self.new }
     {
         if u16::from(number) == u16::from(self.message.count()) + 1 {
             self.message.append(part, now);
