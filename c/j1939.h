@@ -615,7 +615,7 @@ typedef struct {
 } j1939_setup;
 
 /** Opens a controller that is made for this. J1939_BAD_VALUE for an address above 253, more groups, or one of 2^18 and above.
- * It takes all its memory here: some 7 kB, 1.9 kB for each broadcast and transfer, and 3.7 kB for each session.
+ * It takes all its memory here: some 7 kB, and 1.9 kB for each broadcast, session and transfer.
  * @return 0, J1939_BAD_VALUE, J1939_NO_MEMORY, J1939_IN_USE */
 int32_t j1939_controller_new(j1939_controller *controller, const j1939_setup *setup);
 

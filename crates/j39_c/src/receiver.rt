@@ -1,5 +1,5 @@
 //! The receiving end of directed transfers (J1939-21, 5.10.3).
-ghost use Rattle.std.specs.Prelude.{◌≡◌, ◌<◌, ◌^◌, ⊤, pos, true, ◌∷◌, []};
+ghost use Rattle.std.specs.Prelude.{◌≡◌, ◌<◌, ◌^◌, ⊤, pos, true, ◌∷◌, [], None};
 ghost use Rattle.j39_frame.specs.Address.{IsAddress};
 ghost use Rattle.j39_transport.specs.Receiving.{new_receiver};
 ghost use Rattle.j39_c.specs.Calls.{Answers, Asks, Fills, Never, Opens};
@@ -21,7 +21,7 @@ use std::alloc::Global;
 #[unsafe(no_mangle)]
 pub extern "C" fn j39_receiver_new(alloc: Global, receiver: &mut Handle, own: u8) -> i32
     ensures opens { Opens receiver_in (IsAddress own) receiver.old.part result receiver.new.part
-        (λ made. made ≡ record { state = new_receiver own; has_box = true }) }
+        (λ made. made ≡ record { state = new_receiver own; has_box = true; lent = None }) }
     ensures answers { Answers 0 (bad_value ∷ no_memory ∷ in_use ∷ []) result }
 {
     if receiver.is_open(alloc) {

@@ -20,7 +20,7 @@ pub struct Setup<'a> {
     /// each takes a box of 1.9 kB. With as many as there are others that announce to all, none is missed for want of one.
     pub broadcasts: u8,
     /// How many messages in packets to its address come in at once, one of each source, or wait for the program: each takes a box of
-    /// 3.7 kB. Where none is free, another is refused (abort 2; J1939-21, 5.10.3.4).
+    /// 1.9 kB. Where none is free, another is refused (abort 2; J1939-21, 5.10.3.4).
     pub sessions: u8,
     /// How many messages it sends in packets to others' addresses at once, one to each, or hasn't told to have ended: each takes a box of
     /// 1.9 kB.

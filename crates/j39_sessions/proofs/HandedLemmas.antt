@@ -1,5 +1,5 @@
 -- What is put together was heard of one source.
-use Rattle.j39_sessions.proofs.Common.{Abort, All, All-append, All-cons, All-filter, All-head, All-nil, All-tail, All-weaker, AreReceived, Bool, Directed, Event, FrameRecord, Heard, Hears, IsReceived, Leaves, List, Loses, MessageRecord, None, Option, ReceiverRecord, ReceptionRecord, RecvResult, Session, SessionsRecord, Signal, Some, Tick, Ticks, WasHanded, WereHanded, [], after, answer_in, ap, arith, asks_again, begun, cond_both, delivers_message, false, from, goes_on, granted_at, grants, has_room, has_some, heard, hears, if◌then◌else◌, is_left, is_of_session, is_over, length, listed, made, name_by, nat_eq, nat_lt, not, number_in, of, option_map, others, receiving, recv_step, refl, replied, result_of, said_to, session_by, session_ticked, sessions_ticked, since_by, source_of, step_at, step_in, stepped, strays, subst, sym, takes_abort, takes_data, takes_packet, takes_request, takes_signal, takes_tick, tick_of, true, written, ℕ, ◌++◌, ◌+◌, ◌||◌, ◌∙◌, ◌∷◌, ◌≡◌, ◌≤◌}
+use Rattle.j39_sessions.proofs.Common.{Abort, All, All-append, All-cons, All-filter, All-head, All-nil, All-tail, All-weaker, AreReceived, Bool, Directed, Event, FrameRecord, Heard, Hears, IsReceived, Leaves, List, Loses, MessageRecord, None, Option, ReceiverRecord, ReceptionRecord, RecvResult, Session, SessionsRecord, Signal, Some, Tick, Ticks, WasHanded, WereHanded, [], after, answer_in, ap, arith, asks_again, begun, cond_both, delivers_message, false, from, goes_on, granted_at, grants, has_room, heard, hears, if◌then◌else◌, is_left, is_of_session, is_over, length, listed, made, name_by, nat_eq, nat_lt, not, number_in, of, option_map, others, receiving, recv_step, refl, replied, result_of, said_to, session_by, session_ticked, sessions_ticked, since_by, source_of, step_at, step_in, stepped, strays, subst, sym, takes_abort, takes_data, takes_packet, takes_request, takes_signal, takes_tick, tick_of, true, written, ℕ, ◌++◌, ◌+◌, ◌∙◌, ◌∷◌, ◌≡◌, ◌≤◌}
 use Rattle.j39_transport.specs.Frames as frames
 use Rattle.j39_transport.specs.Frames.{packets_for}
 use Rattle.j39_transport.specs.ReceiverStands.{AreJoined, passed}

@@ -1,10 +1,12 @@
 -- What a step of one box leaves.
-use Rattle.j39_sessions.proofs.Common.{Bool, BoxedReceiver, Directed, FrameRecord, Heard, IfSome, IsOpenAt, IsSome, List, MessageRecord, None, Option, ReceiverRecord, Receives, ReceptionRecord, RecvResult, Reply, Session, SessionsRecord, Signal, Some, Tick, ToSend, [], and_parts, answers, ap, append-nil, arith, asks_again, begun, broadcast_in, bytes_of, cond_both, control_in, delivers_message, false, fewest, filter, from, goes_on, granted_at, grants, has_some, hears, if◌then◌else◌, is_of_session, is_over, is_request, kept_by, length, length-set, listed, longest, made, map, narrowed, nat_eq, nat_lt, new_receiver, not, number_in, of, option_map, or_blank, others, packed_in, pgn_of, put_in, receiving, recv_step, refl, replied, request_in, result_of, said_between, said_by, said_to, session_in, session_with, shown, slice_index, slice_set, source_of, step_at, strays, subst, sym, takes_abort, takes_data, takes_packet, takes_request, takes_signal, takes_tick, tick_of, transport_control_group, true, without, ℕ, ◌&&◌, ◌++◌, ◌+◌, ◌<◌, ◌∙◌, ◌∷◌, ◌≡◌, ◌≢◌}
+use Rattle.j39_sessions.proofs.Common.{Bool, BoxedReceiver, Directed, FrameRecord, Heard, IfSome, IsOpenAt, IsSome, List, MessageRecord, None, Option, ReceiverRecord, Receives, ReceptionRecord, RecvResult, Reply, Session, SessionsRecord, Signal, Some, Tick, ToSend, [], and_parts, answers, ap, append-nil, arith, asks_again, begun, broadcast_in, bytes_of, cond_both, control_in, delivers_message, false, fewest, filter, from, goes_on, granted_at, grants, has_some, hears, if◌then◌else◌, is_of_session, is_over, is_request, kept_in, length, length-set, lent_in, listed, longest, made, map, narrowed, nat_eq, nat_lt, new_receiver, not, number_in, of, option_map, or_blank, others, packed_in, pgn_of, put_in, receiving, recv_step, refl, replied, request_in, result_of, said_between, said_by, said_to, session_in, session_with, shown, slice_index, slice_set, source_of, stamp_micros, step_at, strays, subst, sym, takes_abort, takes_data, takes_packet, takes_request, takes_signal, takes_tick, tick_of, transport_control_group, true, without, ℕ, ◌&&◌, ◌++◌, ◌+◌, ◌<◌, ◌∙◌, ◌∷◌, ◌≡◌, ◌≢◌}
 use Rattle.std.proofs.lemmas.List.{get_or-set_other, get_or-set_same}
 use Rattle.j39_transport.specs.Frames as frames
 use Rattle.j39_transport.specs.Frames.{names_message}
 use Rattle.j39_transport.specs.Signals.{RequestToSend, said_by as says_by}
 use Rattle.j39_sessions.proofs.BoxLemmas.{none_other}
+use Rattle.std.specs.declared.boxed.Box.{Box}
+use Rattle.std.specs.Global.{Global}
 use Rattle.j39_sessions.specs.declared.seat.Seat.{Seat}
 use Rattle.j39_sessions.specs.declared.sessions.Said.{Said}
 
@@ -134,6 +136,16 @@ whole_closes r f now found e = grind (arith, e)
 
 pub none_there : {T : Type 0} (o : Option T) (b : Bool) → b ≡ has_some o → b ≡ false → o ≡ None
 none_there o b e f = grind (arith, e, f)
+
+-- the message that a box tells is there
+pub is_made : (o : Option MessageRecord) (x : Option (ℕ × ℕ)) → x ≡ option_map (λ m. (m.source, m.pgn)) o → has_some x ≡ has_some o
+is_made o x e = grind (arith, e)
+
+-- and it keeps it
+pub is_kept : (b : Box Seat Global) (f : FrameRecord) (now : ℕ) (o : Option MessageRecord) → stamp_micros b.value.stamp ≡ f.stamp
+    → IfSome o (λ m. b.value.receiver.lent ≡ Some (now, m)) → IfSome o (λ m. kept_in b ≡ (f.stamp, m))
+is_kept b f now None e h = tt
+is_kept b f now (Some m) e h = λ i. (e i, lent_in (h i))
 
 -- where its message is whole
 pub put_whole : (s : SessionsRecord) (a since : ℕ) (name : Option ℕ) (f : FrameRecord) (x : RecvResult) (kept : ℕ × MessageRecord) → has_some x.delivers ≡ true → x.after.session ≡ None

@@ -10,7 +10,6 @@ ghost use Rattle.j39_transport.specs.Receiving.{new_receiver, said_to};
 ghost use Rattle.j39_transport.specs.Signals.{Abort, written};
 ghost use Rattle.j39_frame.specs.Pgn.{pgn_raw};
 ghost use Rattle.j39_sessions.specs.Sessions.{fewest, from, is_left, is_of, limit_in, longest, narrowed, number_in, shown, strays, tick_of};
-ghost use Rattle.j39_sessions.specs.Seats.{Receives};
 
 use crate::sessions::is_same;
 use byteorder::{ByteOrder, LittleEndian};
@@ -32,6 +31,30 @@ pub(crate) struct Outcome {
     pub(crate) made: Option<(u8, u32)>,
 }
 
+impl Outcome {
+    ghost use Rattle.j39_sessions.specs.Seats.{Receives};
+
+    /// What a receiver says to a frame, and which message it delivers.
+    fn of(receiver: &mut Receiver, frame: &Frame, now: Stamp) -> Outcome
+        ensures { receiver.old.has_box ≡ true → Receives receiver.old frame.now (stamp_micros now) result receiver.new }
+    {
+        match receiver.on(frame, now) {
+            Reply::Nothing => Outcome {
+                says: None,
+                made: None,
+            },
+            Reply::Send(_id, bytes) => Outcome {
+                says: Some(bytes),
+                made: None,
+            },
+            Reply::Delivered(message, _id, bytes) => Outcome {
+                says: Some(bytes),
+                made: Some((message.source, message.pgn.raw())),
+            },
+        }
+    }
+}
+
 /// A receiver with its buffer, in which its message stays when it is whole.
 #[derive(Drop)]
 pub(crate) struct Seat {
@@ -46,7 +69,7 @@ pub(crate) struct Seat {
 }
 
 impl Seat {
-    ghost use Rattle.j39_sessions.specs.Seats.{bytes_of, session_in};
+    ghost use Rattle.j39_sessions.specs.Seats.{Receives, bytes_of, session_in};
 
     /// A box at an address, in which nothing was begun; `None` above 253.
     #[inline(always)]
@@ -94,8 +117,8 @@ impl Seat {
             };
         }
         match narrowed(most, frame) {
-            Some(shown) => receive(&mut self.receiver, &shown, now),
-            None => receive(&mut self.receiver, frame, now),
+            Some(shown) => Outcome::of(&mut self.receiver, &shown, now),
+            None => Outcome::of(&mut self.receiver, frame, now),
         }
     }
 
@@ -192,26 +215,6 @@ impl Seat {
             Some(group) => group,
             None => Pgn::new(0).unwrap(),
         }
-    }
-}
-
-/// What a receiver says to a frame, and which message it delivers.
-fn receive(receiver: &mut Receiver, frame: &Frame, now: Stamp) -> Outcome
-    ensures { receiver.old.has_box ≡ true → Receives receiver.old frame.now (stamp_micros now) result receiver.new }
-{
-    match receiver.on(frame, now) {
-        Reply::Nothing => Outcome {
-            says: None,
-            made: None,
-        },
-        Reply::Send(_id, bytes) => Outcome {
-            says: Some(bytes),
-            made: None,
-        },
-        Reply::Delivered(message, _id, bytes) => Outcome {
-            says: Some(bytes),
-            made: Some((message.source, message.pgn.raw())),
-        },
     }
 }
 

@@ -1,16 +1,16 @@
 -- What hears nothing more comes to rest soon in a loop that ticks often: law `rests`.
-use Rattle.std.proofs.Common.{◌≡◌, ℕ, zero, suc, ◌+◌, ◌-◌, ◌*◌, ◌<◌, ◌≤◌, ◌==◌, nat_lt, Bool, true, false, List, [], ◌∷◌, Option, Some, None, refl, sym, subst, arith, if◌then◌else◌}
+use Rattle.std.proofs.Common.{◌≡◌, ℕ, zero, suc, ◌+◌, ◌-◌, ◌*◌, ◌<◌, ◌≤◌, ◌==◌, nat_lt, Bool, true, false, List, [], ◌∷◌, length, Option, Some, None, refl, sym, ap, subst, arith, eqb-true, if◌then◌else◌}
 use Rattle.std.proofs.Math.Nat.{mul-le-mul_right, suc-mul}
 use Rattle.std.proofs.lemmas.Bool.{cond_both, eqb-false, ltb-false}
 use Rattle.j39_transport.specs.Liveness.{AreWithin, has_sent, has_received, last_of, ticked_receiver, ticked_sender, time_of, SenderRestsSoonLaw, ReceiverRestsSoonLaw}
-use Rattle.j39_transport.specs.Message.{MessageRecord, packets_of}
+use Rattle.j39_transport.specs.Message.{MessageRecord, IsLong, packets_of}
 use Rattle.j39_transport.specs.Net.{is_over}
 use Rattle.j39_transport.specs.Protocol.{timer_t3}
 use Rattle.j39_transport.specs.Receiving.{ReceiverRecord, recv_step, new_receiver}
 use Rattle.j39_transport.specs.Receiving as receiving
-use Rattle.j39_transport.specs.Reception.{ReceptionRecord, Reaction, asks_again, granted_at, grants, limit_of, takes_tick}
+use Rattle.j39_transport.specs.Reception.{ReceptionRecord, Reaction, asks_again, granted_at, grants, limit_of, quiet, takes_tick}
 use Rattle.j39_transport.specs.SenderModel.{IsState}
-use Rattle.j39_transport.specs.Sending.{SenderRecord, SendResult, SendState, Idle, Waiting, Sending, Done, Failed, new_sender, send_step, sends_packet, ticks_in}
+use Rattle.j39_transport.specs.Sending.{SenderRecord, SendResult, SendState, Idle, Waiting, Sending, Done, Failed, new_sender, send_step, sends_packet, ticks_in, waits}
 use Rattle.j39_transport.proofs.Resting.{AsksFew, IsSound, all_few, all_sound, limit_most, new_sound, tick_sound}
 
 -- ---- a sender

@@ -3,11 +3,11 @@ use Rattle.std.specs.declared.boxed.Box.{Box}
 use Rattle.std.specs.Global.{Global}
 use Rattle.j39_sessions.specs.declared.seat.Seat.{Seat}
 use Rattle.j39_sessions.specs.declared.sessions.Sessions.{Sessions}
-use Rattle.j39_sessions.proofs.StepLemmas.{none_there, own_after, put_open, put_whole, step_is, whole_closes}
+use Rattle.j39_sessions.proofs.StepLemmas.{is_kept, is_made, none_there, own_after, put_open, put_whole, step_is, whole_closes}
 use Rattle.j39_sessions.proofs.sessions.Sessions.take.Goals as goal
 
-pub returns-then-outcome-clause-taken : goal.returns-then-outcome-clause-taken
-returns-then-outcome-clause-taken c = λ o e.
+pub returns-then-is_some-clause-taken : goal.returns-then-is_some-clause-taken
+returns-then-is_some-clause-taken c = λ o e.
     let f = c.args.frame.now in
     let now = stamp_micros c.args.now in
     let old = c.args.self.now in
@@ -16,7 +16,7 @@ returns-then-outcome-clause-taken c = λ o e.
     let v = c.deref_mut.ensures.value in
     let heard = c.hear-outcome.ensures.heard in
     let is = step_is old.own old.most f now y o (ap (λ (s : Seat). s.receiver.state.own) v ∙ c.requires.at) (e ∙ ap (λ (s : Seat). option_map (session_with s) s.receiver.state.session) (sym v)) in
-    let there = sym heard.whole ∙ c.if-outcome.true in
+    let there = sym (is_made _ _ heard.made) ∙ (sym c.is_some.ensures ∙ c.if-is_some.true) in
     let stays = c.reply.ensures.stays in
     let said = c.reply.ensures.replied (recv_step y.receiver.state (Heard (shown y.receiver.state.own old.most y.receiver.state.session f)) now true).sends heard.says in
     let a = c.source.ensures ∙ ap (λ (g : FrameRecord). source_of g.id) c.frame.view_is in
@@ -39,7 +39,7 @@ returns-then-outcome-clause-taken c = λ o e.
     ∙ put_whole (sessions_of old) (source_of f.id) (stamp_micros seat.since) (option_map name_raw seat.name) f (step_at old.own old.most true f now o) (kept_in b)
     (ap (λ (x : RecvResult). has_some x.delivers) is ∙ there)
     (ap (λ (x : RecvResult). x.after.session) is ∙ whole_closes y.receiver.state _ now true there)
-    (subst (λ (x : RecvResult). IfSome x.delivers (λ m. kept_in b ≡ (f.stamp, m))) (sym is) heard.keeps)
+    (subst (λ (x : RecvResult). IfSome x.delivers (λ m. kept_in b ≡ (f.stamp, m))) (sym is) (is_kept b f now _ c.hear-outcome.ensures.stamp heard.lends))
 
 pub settle-requires-clause-at : goal.settle-requires-clause-at
 settle-requires-clause-at c =
@@ -70,4 +70,4 @@ returns-clause-taken c = λ o e.
       replies = (ap (λ (s : SessionsRecord). s.replies) said ∙ (λ j. replied (a j) (sym is j).sends (map said_by old.replies.items))) i;
     } in z))
     ∙ put_open (sessions_of old) (source_of f.id) (stamp_micros seat.since) (option_map name_raw seat.name) f (step_at old.own old.most true f now o)
-    (ap (λ (w : RecvResult). w.delivers) is ∙ none_there x.delivers c.hear-outcome.result.is_whole heard.whole c.if-outcome.false))
+    (ap (λ (w : RecvResult). w.delivers) is ∙ none_there x.delivers (has_some c.hear-outcome.result.made) (is_made _ _ heard.made) (sym c.is_some.ensures ∙ c.if-is_some.false)))
