@@ -8,7 +8,7 @@ use Rattle.j39_frame.specs.Stamp.{stamp_micros}
 use Rattle.j39_transport.specs.Cutting.{to_send}
 use Rattle.j39_transport.specs.Message.{MessageRecord}
 use Rattle.j39_transport.specs.Reception.{ReceptionRecord, Reaction, quiet, answers, message_of}
-use Rattle.j39_transport.specs.Receiving.{ReceiverAnswer}
+use Rattle.j39_transport.specs.Receiving.{ReceiverAnswer, lent_after}
 use Rattle.j39_transport.specs.SignalModel.{said}
 use Rattle.j39_transport.specs.declared.reception.Step.{Step}
 use Rattle.j39_transport.specs.declared.reception.Step.TheVariants.{Quiet, Says, Aborts, Delivers}
@@ -31,11 +31,11 @@ stepped (Says a) r = answers (Some r) (said a)
 stepped (Aborts a) r = answers None (said a)
 stepped (Delivers a) r = record { session = None; says = Some (said a); delivers = Some (message_of r.message) }
 
--- a session that stays lacks a packet, and one that delivers has all
+-- a session that delivers has all its packets, and any other lacks one
 abbrev pub IsStep : Step → ReceptionRecord → Type 0
 IsStep Quiet r = r.message.count < r.message.packets
 IsStep (Says a) r = r.message.count < r.message.packets
-IsStep (Aborts a) r = Unit {0}
+IsStep (Aborts a) r = r.message.count < r.message.packets
 IsStep (Delivers a) r = r.message.count ≡ r.message.packets
 
 -- one that delivers had its last packet at this moment
@@ -65,9 +65,13 @@ abbrev pub has_box : BuffersRecord → Bool
 has_box b = is_some b.session || is_some b.spare
 
 -- the whole message in a buffer, with the moment of its last packet
-abbrev pub lent_by : Option ReceptionRecord → Option (ℕ × MessageRecord)
-lent_by None = None
-lent_by (Some r) = if r.message.count == r.message.packets then Some (r.message.last, message_of r.message) else None
+abbrev pub whole_in : Option ReceptionRecord → Option (ℕ × MessageRecord)
+whole_in None = None
+whole_in (Some r) = if r.message.count == r.message.packets then Some (r.message.last, message_of r.message) else None
+
+-- that of the session last over, till another is open
+abbrev pub lent_by : BuffersRecord → Option (ℕ × MessageRecord)
+lent_by b = if is_some b.session then None else whole_in b.spare
 
 -- what an event did, where the buffers are these afterwards
 abbrev pub reacted : Step → BuffersRecord → Reaction
@@ -75,15 +79,11 @@ reacted Quiet b = quiet b.session
 reacted (Says a) b = answers b.session (said a)
 reacted (Aborts a) b = answers b.session (said a)
 reacted (Delivers a) b = record
-    { session = b.session; says = Some (said a); delivers = option_map (λ x. x.1) (lent_by b.spare) }
+    { session = b.session; says = Some (said a); delivers = option_map (λ x. x.1) (lent_by b) }
 
--- a message that is delivered stands in the session last over, whole at this moment
-abbrev pub CanLend : ℕ → Step → Option ReceptionRecord → Type 0
-CanLend now Quiet spare = Unit {0}
-CanLend now (Says a) spare = Unit {0}
-CanLend now (Aborts a) spare = Unit {0}
-CanLend now (Delivers a) None = ⊥
-CanLend now (Delivers a) (Some r) = (r.message.count ≡ r.message.packets) × (r.message.last ≡ now)
+-- and which message lies whole in them then
+abbrev pub Lends : ℕ → Step → BuffersRecord → BuffersRecord → Type 0
+Lends now step old new = lent_by new ≡ lent_after now (reacted step new).delivers new.session (lent_by old)
 
 -- ---- answers
 

@@ -1,5 +1,5 @@
 -- The receiver of directed transfers: what it does at each event (J1939-21, 5.10.3).
-use Rattle.std.specs.Prelude.{◌≡◌, ℕ, nat_lt, Bool, true, ◌||◌, if◌then◌else◌, Option, Some, None, IfSome}
+use Rattle.std.specs.Prelude.{◌≡◌, ℕ, nat_lt, Bool, true, ◌||◌, if◌then◌else◌, Option, Some, None}
 use Rattle.std.specs.Option.{is_some, option_map}
 use Rattle.j39_frame.specs.Address.{null_address}
 use Rattle.j39_frame.specs.Frame.{FrameRecord}
@@ -74,11 +74,16 @@ pub record BoxedReceiver : Type 0 where
   pub has_box : Bool
   pub lent : Option (ℕ × MessageRecord)
 
--- it takes the step of a frame: memory is found where it has a box; it has one then, where it had one or has a session; and
--- what it delivers lies there
+-- what lies there behind a step: what is delivered, or nothing where a session has the box, or what lay there
+abbrev pub lent_after : ℕ → Option MessageRecord → Option ReceptionRecord → Option (ℕ × MessageRecord) → Option (ℕ × MessageRecord)
+lent_after now (Some m) session lent = Some (now, m)
+lent_after now None (Some r) lent = None
+lent_after now None None lent = lent
+
+-- it takes the step of a frame: memory is found where it has a box; and it has one then, where it had one or has a session
 pub record HearStep (old : BoxedReceiver) (f : FrameRecord) (now : ℕ) (answer : ReceiverAnswer)
     (new : BoxedReceiver) : Type 0 where
   pub step : RecvStep old.state (Heard f) now answer new.state
   pub finds : old.has_box ≡ true → step.found ≡ true
   pub box_is : new.has_box ≡ (is_some new.state.session || old.has_box)
-  pub lends : IfSome answer.delivers (λ m. new.lent ≡ Some (now, m))
+  pub lends : new.lent ≡ lent_after now answer.delivers new.state.session old.lent

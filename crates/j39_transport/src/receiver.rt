@@ -12,10 +12,10 @@ ghost use Rattle.j39_transport.specs.Frames.{source_of};
 ghost use Rattle.j39_transport.specs.Key.Key.{Directed};
 ghost use Rattle.j39_transport.specs.ReceiverStands.{ReceiverStandsFor, WereHanded, HasHeard};
 ghost use Rattle.j39_transport.specs.Reception.{expects, takes_request, takes_data, takes_abort, takes_signal, takes_tick, is_taken, limit_of};
-ghost use Rattle.j39_transport.specs.Receiving.{said_to, RecvStep, HearStep, Tick, Heard, recv_step, answer_in, result_of, new_receiver, partner_of};
+ghost use Rattle.j39_transport.specs.Receiving.{said_to, RecvStep, HearStep, Tick, Heard, recv_step, answer_in, lent_after, result_of, new_receiver, partner_of};
 ghost use Rattle.j39_transport.specs.SessionModel.{opened_by};
 ghost use Rattle.j39_transport.specs.SignalModel.{said};
-ghost use Rattle.j39_transport.specs.ReceiverModel.{stepped, reacted, has_box, stamped, lent_by, IsAt, IsStep, CanLend, answer_of, IsStamped};
+ghost use Rattle.j39_transport.specs.ReceiverModel.{stepped, reacted, has_box, stamped, lent_by, whole_in, IsAt, IsStep, Lends, BuffersRecord, answer_of, IsStamped};
 
 use crate::announcement::Announcement;
 use crate::message::Message;
@@ -54,7 +54,7 @@ impl Model for Receiver {
     ghost view = { λ r. record {
       state = record { own = r.own; session = r.buffers.session };
       has_box = has_box r.buffers;
-      lent = lent_by r.buffers.spare;
+      lent = lent_by r.buffers;
     } };
 
     ghost invariant = { λ r. IsAddress r.own };
@@ -149,6 +149,7 @@ impl Receiver {
         ensures step { RecvStep self.old.state Tick (stamp_micros now)
             (record { sends = option_map to_send result; delivers = None }) self.new.state }
         ensures buffer { self.new.has_box ≡ self.old.has_box }
+        ensures lent { self.new.lent ≡ self.old.lent }
         ensures stands { (E : List FrameRecord) → ReceiverStandsFor E self.old.state
             → ReceiverStandsFor E self.new.state }
     {
@@ -160,6 +161,7 @@ impl Receiver {
         ensures step { RecvStep self.old.state Tick (stamp_micros now)
             (record { sends = option_map to_send result; delivers = None }) self.new.state }
         ensures buffer { self.new.has_box ≡ self.old.has_box }
+        ensures lent { self.new.lent ≡ self.old.lent }
     {
         let to = self.buffers.partner();
         match self.buffers.tick(now) {
@@ -195,6 +197,7 @@ impl Receiver {
     pub fn end(&mut self)
         ensures state { self.new.state ≡ new_receiver self.old.state.own }
         ensures buffer { self.new.has_box ≡ self.old.has_box }
+        ensures lent { self.new.lent ≡ self.old.lent }
     {
         self.buffers.end();
     }
@@ -206,6 +209,7 @@ impl Receiver {
         ensures moved { result ≡ true → self.new.state ≡ new_receiver own }
         ensures stays { result ≡ false → self.new ≡ self.old }
         ensures buffer { self.new.has_box ≡ self.old.has_box }
+        ensures lent { self.new.lent ≡ self.old.lent }
         ensures stands { result ≡ true → ReceiverStandsFor [] self.new.state }
     {
         if !is_address(own) {
@@ -309,7 +313,7 @@ type ReceptionBox = Option<Box<Reception>>;
 
 /// A buffer for a message: the one place where memory is taken.
 fn boxed(alloc: Global) -> Result<Box<Reception>, AllocError>
-    ensures { IfOk result (λ made. lent_by (Some made.value) ≡ None) }
+    ensures { IfOk result (λ made. whole_in (Some made.value) ≡ None) }
 {
     Ok(Box::new(alloc, Reception::unused())?)
 }
@@ -359,6 +363,7 @@ impl Buffers {
     fn end(&mut self)
         ensures session { self.new.session ≡ None }
         ensures buffer { has_box self.new ≡ has_box self.old }
+        ensures lent { lent_by self.new ≡ lent_by self.old }
     {
         if let Some(session) = self.session.take() {
             self.spare = Some(session);
@@ -371,7 +376,8 @@ impl Buffers {
         requires step { IsStep step session.value }
         ensures does { reacted step self.new ≡ stepped step session.value }
         ensures buffer { has_box self.new ≡ true }
-        ensures lends { (now : ℕ) → IsAt now step session.value → CanLend now step self.new.spare }
+        ensures lends { (now : ℕ) → IsAt now step session.value
+            → lent_by self.new ≡ lent_after now (reacted step self.new).delivers self.new.session None }
     {
         match step {
             Step::Quiet => self.session = Some(session),
@@ -387,7 +393,7 @@ impl Buffers {
         ensures does { reacted result self.new
             ≡ takes_data source number part.now (stamp_micros now) self.old.session }
         ensures buffer { has_box self.new ≡ has_box self.old }
-        ensures lends { CanLend (stamp_micros now) result self.new.spare }
+        ensures lends { Lends (stamp_micros now) result self.old self.new }
     {
         match self.session.take() {
             None => Step::Quiet,
@@ -409,7 +415,7 @@ impl Buffers {
     fn take_abort(&mut self, source: u8, pgn: u32) -> Step
         ensures does { reacted result self.new ≡ takes_abort source pgn self.old.session }
         ensures buffer { has_box self.new ≡ has_box self.old }
-        ensures lends { (now : ℕ) → CanLend now result self.new.spare }
+        ensures lends { (now : ℕ) → Lends now result self.old self.new }
     {
         match self.session.take() {
             None => Step::Quiet,
@@ -446,7 +452,7 @@ impl Buffers {
             ≡ takes_request (opened_by pair.from pair.to announcement (stamp_micros now)) most (stamp_micros now)
             (has_box self.new) self.old.session }
         ensures buffer { has_box self.new ≡ is_some self.new.session || has_box self.old }
-        ensures lends { CanLend (stamp_micros now) result self.new.spare }
+        ensures lends { Lends (stamp_micros now) result self.old self.new }
     {
         let group = announcement.group.raw();
         if self.is_taken(pair.from) {
@@ -470,7 +476,7 @@ impl Buffers {
             ≡ takes_signal (Directed pair.from pair.to) (option_map said signal) (stamp_micros now)
             (has_box self.new) self.old.session }
         ensures buffer { has_box self.new ≡ is_some self.new.session || has_box self.old }
-        ensures lends { CanLend (stamp_micros now) result self.new.spare }
+        ensures lends { Lends (stamp_micros now) result self.old self.new }
     {
         match signal {
             None => Step::Quiet,
@@ -490,6 +496,7 @@ impl Buffers {
     fn tick(&mut self, now: Stamp) -> Step
         ensures does { reacted result self.new ≡ takes_tick (stamp_micros now) self.old.session }
         ensures buffer { has_box self.new ≡ has_box self.old }
+        ensures lent { lent_by self.new ≡ lent_by self.old }
     {
         match self.session.take() {
             None => Step::Quiet,
@@ -501,21 +508,22 @@ impl Buffers {
         }
     }
 
-    /// The message of the session last over, if that was whole.
+    /// The message of the session last over, if that was whole and none is open.
     fn lent(&self) -> Option<Message<'_>>
-        ensures value { option_map stamped result ≡ lent_by self.now.spare }
+        ensures value { option_map stamped result ≡ lent_by self.now }
         ensures short { IfSome result (λ message. length message.payload.now ≤ 1785) }
     {
-        match &self.spare {
-            Some(session) => session.whole(),
-            None => None,
+        match (&self.session, &self.spare) {
+            (None, Some(session)) => session.whole(),
+            (None, None) => None,
+            (Some(_), _) => None,
         }
     }
 
     /// The answer, with a message that is delivered lent out of its buffer.
     fn lend(&self, step: Step, own: u8, to: u8) -> Reply<'_>
         ensures answer { answer_of result ≡ answer_in (result_of own to (reacted step self.now)) }
-        ensures stamp { (now : ℕ) → CanLend now step self.now.spare → IsStamped now result }
+        ensures stamp { (now : ℕ) (old : BuffersRecord) → Lends now step old self.now → IsStamped now result }
         ensures short { IfSome (answer_of result).delivers (λ message. length message.bytes ≤ 1785) }
     {
         let (signal, lent) = match step {

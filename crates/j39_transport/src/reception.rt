@@ -4,7 +4,7 @@ ghost use Rattle.std.specs.Option.{option_map};
 ghost use Rattle.j39_frame.specs.Pgn.{pgn_raw};
 ghost use Rattle.j39_frame.specs.Stamp.{stamp_micros};
 ghost use Rattle.j39_transport.specs.Reception.{begun, expects, most_named, granted_at, window, asks_again, goes_on, takes_packet, takes_tick, limit_of};
-ghost use Rattle.j39_transport.specs.ReceiverModel.{stepped, stamped, lent_by, IsAt, IsStep};
+ghost use Rattle.j39_transport.specs.ReceiverModel.{stepped, stamped, whole_in, IsAt, IsStep};
 ghost use Rattle.j39_transport.specs.SessionModel.{opened_by};
 ghost use Rattle.j39_transport.specs.SignalModel.{said};
 ghost use Rattle.j39_transport.specs.Signals.{ClearToSend};
@@ -66,7 +66,7 @@ impl Model for Reception {
 impl Reception {
     /// A buffer in which no message was begun yet.
     pub(crate) fn unused() -> Reception
-        ensures { lent_by (Some result) ≡ None }
+        ensures { whole_in (Some result) ≡ None }
     {
         Reception {
             message: Session::new(
@@ -121,7 +121,7 @@ impl Reception {
 
     /// Its message, if that is whole.
     pub(crate) fn whole(&self) -> Option<Message<'_>>
-        ensures value { option_map stamped result ≡ lent_by (Some self.now) }
+        ensures value { option_map stamped result ≡ whole_in (Some self.now) }
         ensures short { IfSome result (λ message. length message.payload.now ≤ 1785) }
     {
         if self.message.count() != self.message.packets() {
@@ -219,6 +219,7 @@ impl Reception {
         requires { self.old.message.count < self.old.message.packets }
         ensures step { stepped result self.new ≡ takes_tick (stamp_micros now) (Some self.old) }
         ensures open { IsStep result self.new }
+        ensures at { IsAt (stamp_micros now) result self.new }
     {
         if now.micros() > self.limit() {
             self.ask_again(now)

@@ -16,5 +16,5 @@ returns c =
     let s : HearStep c.args.self.now c.args.frame.now now (answer_of c.lend.result) (boxed r.own t.new.self) =
     subst (λ (old : BoxedReceiver). HearStep old c.args.frame.now now (answer_of c.lend.result) (boxed r.own t.new.self)) c.self.view_is h in (
       (refl, (λ _. tt), s),
-      record { answer = (s.step.found, s.finds, s.step.answers); stamp = c.lend.ensures.stamp now t.ensures.lends; short = c.lend.ensures.short; after = tt },
+      record { answer = (s.step.found, s.finds, s.step.answers); stamp = c.lend.ensures.stamp now r.buffers t.ensures.lends; short = c.lend.ensures.short; after = tt },
     )
