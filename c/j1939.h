@@ -916,7 +916,7 @@ int32_t j1939_answers_close(j1939_answers *answers);
  * Where a program knows another by its NAME, this keeps what is for it till that NAME holds an address and the controller has room. Each
  * is numbered, from 0 on, and how it was settled is told once. The loop:
  *  - .._send and .._ask, at any time;
- *  - after j1939_controller_hear, and once .._due_in is over, .._turn;
+ *  - after j1939_controller_hear, and .._take_ended, by which room comes, and once .._due_in is over, .._turn;
  *  - then .._take_settled until it answers 0; each frees a box.
  *
  * A handle that holds no outbox, or no controller, is answered by J1939_NO_PART, and then both are as they were. */

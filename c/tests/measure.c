@@ -1,4 +1,4 @@
-/* What docs/C.md says of memory, stack and time, or of instructions on a board. Linked with --wrap=malloc. */
+/* What docs/C.md says of memory and time, docs/PROCESSORS.md of stack and of instructions on a board. Linked with --wrap=malloc. */
 #define _XOPEN_SOURCE 700
 #include "../j1939.h"
 #include "expect.h"
