@@ -18,7 +18,7 @@ program_here=j1939 library_here=libj1939.a
 # What the library and the page are made of beside their crates.
 library_files='c/archive c/j1939.c c/j1939.h c/memory.h c/pool.c c/pool.h'
 portable_files="$library_files c/heap.c c/narrow.c"
-portable_files+=' tools/portable/llvm.py tools/portable/make tools/portable/narrow.py tools/portable/system.c tools/portable/write_c.py'
+portable_files+=' tools/portable/aligned.py tools/portable/llvm.py tools/portable/make tools/portable/narrow.py tools/portable/system.c tools/portable/write_c.py'
 page_files='NOTICES web/build web/page.css web/page.html web/put_together web/sample.py crates/j1939/tables/trucks.table tables/functions tables/addresses tables/makers'
 page_files+=' web/page/bands.js web/page/base.js web/page/controls.js web/page/curves.js web/page/faults.js web/page/glance.js web/page/hands.js web/page/log.js web/page/parameters.js web/page/picture.js web/page/plots.js web/page/save.js web/page/table.js web/page/times.js web/page/view.js'
 page_files+=' web/worker/convert.js web/worker/files.js web/worker/hear.js web/worker/log.js web/worker/module.js web/worker/rows.js web/worker/series.js web/worker/values.js web/worker/view.js'

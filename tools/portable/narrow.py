@@ -11,15 +11,18 @@ was proved of it holds as it was proved. Only what a pointer takes in a register
  - An offset is cut to 32 bits by the machine. It lies inside a block, and no block is larger than that (c/narrow.c).
  - A function of C that answers a pair writes it out through a first parameter, and has `_narrow` behind its name: how a pair comes
    back in registers is each machine's own matter.
- - What LLVM moves and fills has a length of 32 bits, which is that of a block.
+ - What LLVM moves and fills has a length of 32 bits, which is that of a block; and where it lies at a multiple of some bytes, as far as
+   the module tells (aligned.py), that is said: else a machine that can't read across words would take it byte by byte.
  - What says how x86-64 guards its stack, and which processor is meant, is left out.
 
 It is right of a module before LLVM's optimiser alone: that may move any eight bytes through a pointer's register, where four are lost.
 All else passes as it is, or is refused with its line."""
 
 import sys
+from functools import partial
 from math import gcd
 
+from aligned import Aligned
 from llvm import BINARY, CASTS, Function, Global, Layout, Module, Refused, Type, refuse, words_of
 
 WIDE = Layout(8)
@@ -34,14 +37,17 @@ PLAIN = BINARY | CASTS - {"ptrtoaddr"} | set("getelementptr icmp select phi br s
 
 
 class Body:
-    """Writes the instructions of a function anew. `places` are what it needs on the stack besides, which is made at its beginning."""
+    """Writes the instructions of a function anew. `places` are what it needs on the stack besides, which is made at its beginning; `known`
+    tells how a place lies."""
 
-    def __init__(self):
+    def __init__(self, aligned):
         self.lines, self.places, self.made = [], [], 0
+        self.aligned, self.known = aligned, None
 
     def text(self, function):
         """The whole of it."""
         for number, (label, instructions) in enumerate(function.blocks):
+            self.known = partial(self.aligned.of, function)
             if label != "%":
                 self.lines.append(f"{label[1:]}:")
             if number == 0:
@@ -87,12 +93,17 @@ class Body:
         """A pointer is loaded as a number, and a pair part by part."""
         (_, at), name = it.values[0], it.dest
         if not it.type.has_pointer():
-            self.put(it.line.text.strip())
+            self.put(self.as_known(it, at))
         elif it.type.kind == "ptr":
             number = self.fresh(f"load i64, ptr {at.text}, align {it.alignment}")
             self.put(f"{name} = inttoptr i64 {number} to ptr")
         else:
             self.gather(it, name, it.type, at.text, it.alignment)
+
+    def as_known(self, it, at):
+        """A load or a store as it is written, at a place of which more may be known."""
+        known = max(it.alignment, gcd(self.known(at), WIDE.alignment(it.type)))
+        return it.line.text.strip().replace(f", align {it.alignment}", f", align {known}")
 
     def gather(self, it, name, kind, at, alignment):
         """Loads a struct's parts, and puts them together under a name."""
@@ -119,7 +130,7 @@ class Body:
         """A pointer is stored as a number, and a pair part by part."""
         (kind, value), (_, at) = it.values
         if not kind.has_pointer():
-            self.put(it.line.text.strip())
+            self.put(self.as_known(it, at))
         elif kind.kind == "ptr":
             self.put(f"store i64 {self.number_of(value)}, ptr {at.text}, align {it.alignment}")
         else:
@@ -150,11 +161,12 @@ class Body:
             self.put(it.line.text.strip())
 
     def cut_length(self, values, name):
-        """Its third operand is the length."""
-        (to, where), (second, what), (_, length), (_, is_volatile) = values
+        """Its third operand is the length; of its places it is said how they lie."""
+        (_, where), (second, what), (_, length), (_, is_volatile) = values
         cut = length.text if length.kind == "number" else self.fresh(f"trunc i64 {length.text} to i32")
         shorter = name.removesuffix("i64") + "i32"
-        self.put(f"call void {shorter}({to} {where.text}, {second} {what.text}, i32 {cut}, i1 {is_volatile.text})")
+        source = f"ptr align {self.known(what)}" if second.kind == "ptr" else str(second)
+        self.put(f"call void {shorter}(ptr align {self.known(where)} {where.text}, {source} {what.text}, i32 {cut}, i1 {is_volatile.text})")
 
     def call_outside(self, it, values, name):
         """The pair that comes lies as on the machine of 64 bits."""
@@ -222,13 +234,14 @@ def narrow(text, triple, layout):
     """The module anew."""
     if not layout.startswith("e-"):
         raise Refused("only little-endian machines are known: the kit stores a tag as four bytes, and reads one")
-    out = []
-    for it in Module(text).items:
+    module, out = Module(text), []
+    aligned = Aligned(module)
+    for it in module.items:
         if isinstance(it, Global):
             out.append(constant_of(it))
         elif isinstance(it, Function):
             out.append(head_of(it))
-            out += Body().text(it) if it.blocks else []
+            out += Body(aligned).text(it) if it.blocks else []
         else:
             out.append(line_of(it, triple, layout))
     return "\n".join(out) + "\n"
