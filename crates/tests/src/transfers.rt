@@ -191,7 +191,7 @@ fn senders(rt: HostRuntime) -> Result<(), Fail> {
 enum ReceiverStep {
     /// Time passes, and it sends this.
     Passes(u64, Sent),
-    /// It hears this frame, sends that, and delivers so many bytes.
+    /// It hears this frame, sends that, and delivers so many bytes, which it shows then.
     Receives(u32, [u8; 8], Sent, usize),
 }
 
@@ -324,8 +324,16 @@ fn receives(receiver: &mut Receiver, step: &ReceiverStep) -> bool {
     match step {
         Passes(micros, sent) => receiver_tick(receiver, *micros) == *sent,
         Receives(raw, bytes, sent, size) => {
-            heard(receiver, *raw, bytes, 0) == Some((*sent, *size))
+            heard(receiver, *raw, bytes, 0) == Some((*sent, *size)) && shown_size(receiver) == *size
         }
+    }
+}
+
+/// How many bytes the message has that the receiver shows.
+fn shown_size(receiver: &Receiver) -> usize {
+    match receiver.delivered() {
+        Some(message) => message.payload.len(),
+        None => 0,
     }
 }
 
