@@ -20,6 +20,26 @@ pub struct Heard<'a> {
     pub name: Option<Name>,
 }
 
+impl<'a> Heard<'a> {
+    /// The same message, in a place of its own: what a slow call is handed lies in memory, and what is read on the quick path
+    /// need not.
+    #[inline(always)]
+    pub fn again(&self) -> Heard<'a>
+        ensures { result ≡ self.now }
+    {
+        Heard {
+            message: Message {
+                source: self.message.source,
+                pgn: self.message.pgn,
+                payload: self.message.payload,
+                stamp: self.message.stamp,
+            },
+            destination: self.destination,
+            name: self.name,
+        }
+    }
+}
+
 /// The destination of a message of this group whose last frame has this identifier.
 #[inline(always)]
 pub(crate) fn destination(pgn: Pgn, id: Id) -> Option<u8>

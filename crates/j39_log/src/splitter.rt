@@ -63,7 +63,7 @@ impl Splitter {
         ensures count { IfSome result (λ found. found.1 ≤ length piece.now) }
         ensures some { IfSome result (λ found. 0 < found.1) }
     {
-        if self.has_ended || !self.kept.is_empty() {
+        if !self.kept.is_empty() {
             return None;
         }
         let bus = bus.as_ref()?;

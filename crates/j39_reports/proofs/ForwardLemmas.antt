@@ -1,5 +1,5 @@
 -- Text that is written from its start on, and lines that wait.
-use Rattle.j39_reports.proofs.Common.{◌≡◌, ◌+◌, ◌-◌, ◌≤◌, ◌∙◌, ◌++◌, ◌∷◌, [], ℕ, zero, suc, List, Ok, Err, Result, ap, append_assoc, append-nil, arith, drop, length, length-append, refl, subst, sym, take, Puts, Device, WritesBefore, puts_as, puts_done, puts_failed, puts_first, puts_nothing, puts_then}
+use Rattle.j39_reports.proofs.Common.{◌≡◌, ◌+◌, ◌-◌, ◌≤◌, ◌∙◌, ◌++◌, ◌∷◌, [], ℕ, zero, suc, List, Ok, Err, Result, ap, append_assoc, append-nil, arith, drop, length, length-append, refl, subst, sym, take, Puts, Device, WritesBefore, puts_done, puts_failed, puts_first, puts_nothing, puts_then}
 use Rattle.std.specs.Prelude.{IsErr}
 use Rattle.std.specs.List.{between}
 use Rattle.j39_io.specs.Turn.{Turn}

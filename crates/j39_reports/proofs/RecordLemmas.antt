@@ -1,10 +1,10 @@
 -- The record of a reading of a message.
-use Rattle.j39_reports.proofs.Common.{◌≡◌, ◌++◌, ◌∷◌, [], ℕ, List, append_assoc, decimal, later_text, refl, true, unwrap_or, value_field, RowRecord, ValueRecord, Hearing, entry_of}
+use Rattle.j39_reports.proofs.Common.{◌≡◌, ◌++◌, ◌∷◌, [], ℕ, List, append_assoc, decimal, later_text, pgn_raw, refl, true, unwrap_or, value_field, RowRecord, ValueRecord, Hearing, entry_of}
 use Rattle.j39_groups.specs.Value.{number, on, off, error, reserved, indicator, text}
 use Rattle.j39_groups.specs.ValueText.{unit_of}
 use Rattle.j39_reports.specs.Columns.{last_field}
 use Rattle.j39_reports.specs.EntryObject.{unit_in}
-use Rattle.j39_reports.specs.EntryText.{entry_record, named_fields, parameter_called, state_called, value_fields}
+use Rattle.j39_reports.specs.EntryText.{entry_record, group_called, named_fields, parameter_called, state_called, value_fields}
 use Rattle.j39_reports.specs.Forwards.{head_text}
 use Rattle.j39_reports.specs.MessageRecords.{IsBegun, begun_fields}
 use Rattle.j39_reports.specs.declared.head.Head.{Head}
@@ -12,9 +12,9 @@ use Rattle.j39_reports.specs.declared.report_records.records.Records.{Records}
 
 -- what is written of a reading is the record of its entry
 pub record_is : (groups : List RowRecord) (h : Hearing) (records : Records) → IsBegun groups h records → (spn : ℕ) (value : ValueRecord)
-    → named_fields (begun_fields records.begin.now records.group.now) spn (parameter_called records.known.now.groups.now records.pgn spn)
-    ++ value_fields value (state_called records.known.now.groups.now records.pgn spn value) ≡ entry_record groups (entry_of h (record { spn = spn; value = value }))
-record_is groups h records is spn value = rw (is.begin_is, is.by, is.pgn_is) refl
+    → named_fields (begun_fields records.begin.now (group_called records.known.now.groups.now (pgn_raw records.pgn))) spn (parameter_called records.known.now.groups.now (pgn_raw records.pgn) spn)
+    ++ value_fields value (state_called records.known.now.groups.now (pgn_raw records.pgn) spn value) ≡ entry_record groups (entry_of h (record { spn = spn; value = value }))
+record_is groups h records is spn value = rw (is.by, is.pgn_is, is.begin_is) refl
 
 regroup : (begun spn name bare behind : List ℕ)
     → begun ++ (((44 ∷ spn) ++ name ++ (44 ∷ [])) ++ (bare ++ behind)) ≡ (begun ++ (44 ∷ spn) ++ name) ++ ((44 ∷ bare) ++ behind)

@@ -1,9 +1,8 @@
 -- The rows of a summary, with one entry more.
-use Rattle.j39_reports.proofs.Common.{◌≡◌, ◌||◌, ◌+◌, ℕ, ℤ, Bool, true, false, List, [], ◌∷◌, ◌++◌, Option, None, Some, length, length-append, append-nil, map, refl, sym, ap, ap₂, ◌∙◌, arith, filter, fold, count_by, if◌then◌else◌, int_max, int_min, filter_map, list_any, both_ways, map-append, filter-append, filter_map-append, fold-append, capped, Entry, filter_unlisted}
+use Rattle.j39_reports.proofs.Common.{◌≡◌, ◌||◌, ◌+◌, ℕ, ℤ, Bool, true, false, List, [], ◌∷◌, ◌++◌, Option, None, Some, length, length-append, append-nil, map, refl, sym, ap, ◌∙◌, arith, filter, fold, count_by, if◌then◌else◌, int_max, int_min, filter_map, list_any, map-append, filter-append, filter_map-append, fold-append, capped, Entry}
 use Rattle.j39_reports.specs.RowsSoFar.{begun, grown, one_if, widened}
-use Rattle.j39_reports.specs.Summary.{AreApart, Number, Range, Row, are_comparable, comparable_with, firsts, have_one_origin, is_word, last_of, number_of, range_of, row_of, summary_of, values_like}
-use Rattle.j39_reports.proofs.FirstLemmas.{first_of_each, firsts-more, firsts_apart, if_new}
-use Rattle.j39_reports.proofs.OriginLemmas.{same_like, same_self, same_sym}
+use Rattle.j39_reports.specs.Summary.{Number, Range, Row, are_comparable, comparable_with, firsts, have_one_origin, is_word, last_of, number_of, range_of, row_of, summary_of}
+use Rattle.j39_reports.proofs.FirstLemmas.{first_of_each}
 
 -- ---- one value more
 

@@ -1,6 +1,6 @@
 -- The steps of a message's objects, reading by reading.
 use Rattle.std.specs.Prelude.{◌≡◌, ◌++◌, ℕ, List, Option, if◌then◌else◌}
-use Rattle.std.specs.Option.{option_map}
+use Rattle.j39_frame.specs.Pgn.{pgn_raw}
 use Rattle.j39_io.specs.Turn.{Device}
 use Rattle.j39_groups.specs.Names.{group_name_in}
 use Rattle.j39_groups.specs.Row.{RowRecord}
@@ -19,9 +19,9 @@ opened o group = if o.has_group then head_text o else head_text o ++ group_membe
 -- the objects are those of this message by this table
 pub record IsOpened (groups : List RowRecord) (h : Hearing) (objects : Objects) : Type 0 where
   pub by : objects.known.now.groups.now ≡ groups
-  pub opening_is : opened objects.opening.now (option_map (λ name. name.now) objects.group)
+  pub opening_is : opened objects.opening.now (group_name_in groups h.message.pgn)
       ≡ opening_text h.stamp h.message.source h.destination h.name h.message.pgn ++ group_member (group_name_in groups h.message.pgn)
-  pub pgn_is : objects.pgn ≡ h.message.pgn
+  pub pgn_is : pgn_raw objects.pgn ≡ h.message.pgn
 
 -- the objects of these readings were written, but for those that wait, and no fault came
 pub record HasWritten (begun : Begun) (objects : Objects) (writer : Device) (readings : List ReadingRecord) : Type 0 where

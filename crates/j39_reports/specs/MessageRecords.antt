@@ -1,5 +1,6 @@
 -- The steps of a message's records, reading by reading.
 use Rattle.std.specs.Prelude.{◌≡◌, ◌++◌, ℕ, List, if◌then◌else◌}
+use Rattle.j39_frame.specs.Pgn.{pgn_raw}
 use Rattle.j39_io.specs.Records.{later_text}
 use Rattle.j39_io.specs.Turn.{Device}
 use Rattle.j39_groups.specs.Row.{RowRecord}
@@ -19,9 +20,9 @@ begun_fields begin group =
 -- the records are those of this message by this table
 pub record IsBegun (groups : List RowRecord) (h : Hearing) (records : Records) : Type 0 where
   pub by : records.known.now.groups.now ≡ groups
-  pub begin_is : begun_fields records.begin.now records.group.now
+  pub begin_is : begun_fields records.begin.now (group_called groups h.message.pgn)
       ≡ begin_text h.stamp h.message.source h.destination h.name h.message.pgn ++ later_text (group_called groups h.message.pgn)
-  pub pgn_is : records.pgn ≡ h.message.pgn
+  pub pgn_is : pgn_raw records.pgn ≡ h.message.pgn
 
 -- the records of these readings were written, but for those that wait, and no fault came
 pub record HasWritten (begun : Begun) (records : Records) (writer : Device) (readings : List ReadingRecord)

@@ -248,14 +248,6 @@ pub(crate) struct Missed<'t> {
     pub unit: &'t [u8],
 }
 
-/// Keeps what was missed last.
-#[inline(always)]
-pub(crate) fn note<'t>(last: &mut Option<Missed<'t>>, missed: Option<Missed<'t>>) {
-    if missed.is_some() {
-        *last = missed;
-    }
-}
-
 /// A table, the sides of the parameters that came first, and what is said of the groups that came last.
 #[derive(Drop)]
 pub(crate) struct KnownSides<'g, 't, F: SideForm> {

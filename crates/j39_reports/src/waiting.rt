@@ -4,6 +4,7 @@ ghost use Rattle.std.specs.Prelude.{◌≡◌, ◌+◌, ◌≤◌, ◌++◌, Non
 use crate::forwards::part_behind;
 use crate::head::Head;
 use crate::sides::{BEHIND, KnownSides, SIDE, SideForm, VALUE, unit_in};
+use j39_frame::Pgn;
 use j39_groups::Value;
 use j39_io::{DeviceFault, Sink, put_all};
 
@@ -25,6 +26,7 @@ pub(crate) struct Waiting {
 impl Waiting {
     ghost use Rattle.j39_io.specs.Puts.{Puts};
     ghost use Rattle.j39_io.specs.Turn.{turn};
+    ghost use Rattle.j39_frame.specs.Pgn.{pgn_raw};
     ghost use Rattle.j39_groups.specs.Models.{value_of};
     ghost use Rattle.j39_groups.specs.Names.{name_in, state_in};
     ghost use Rattle.j39_reports.specs.EntryObject.{unit_in};
@@ -57,21 +59,21 @@ impl Waiting {
         &mut self,
         head: &Head,
         known: &KnownSides<'_, '_, F>,
-        pgn: u32,
+        pgn: Pgn,
         spn: u32,
         value: Value<'_, '_>,
     ) -> bool
         ensures group { result ≡ true → head.now.has_group ≡ true }
-        ensures stateless { result ≡ true → state_in known.now.groups.now pgn spn (value_of value.entry) ≡ None }
+        ensures stateless { result ≡ true → state_in known.now.groups.now (pgn_raw pgn) spn (value_of value.entry) ≡ None }
         ensures pushed { result ≡ true → waiting_text self.new ≡ waiting_text self.old ++ (head_text head.now
-            ++ (F.before spn (name_in known.now.groups.now pgn spn) ++ (F.value_text (value_of value.entry)
+            ++ (F.before spn (name_in known.now.groups.now (pgn_raw pgn) spn) ++ (F.value_text (value_of value.entry)
             ++ F.behind (unit_in (value_of value.entry))))) }
         ensures kept { result ≡ false → waiting_text self.new ≡ waiting_text self.old }
     {
         if !head.has_group || self.at > BLOCK - ENTRY {
             return false;
         }
-        let Some(sides) = known.of(pgn, spn) else {
+        let Some(sides) = known.of(pgn.raw(), spn) else {
             return false;
         };
         let Some(behind) = known.behind_of(sides, unit_in(value)) else {

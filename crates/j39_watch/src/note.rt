@@ -23,7 +23,6 @@ use j39_fault_reports::{LastActives, is_of_fault_group, take_heard};
 use j39_frame::Frame;
 use j39_groups::Groups;
 use j39_listen::{Chooser, Heard, Listener, Roles};
-use j39_transport::Message;
 use std::alloc::{AllocError, Global};
 
 /// Notes what is heard at a frame, and answers how many messages that is whose values may be shown. Most frames are of
@@ -134,27 +133,9 @@ fn note_fault(
     if !counts {
         return Ok(());
     }
-    match take_heard(alloc, &again(heard), is_timely, &[], places) {
+    match take_heard(alloc, &heard.again(), is_timely, &[], places) {
         Ok(_) => Ok(()),
         Err(AllocError) => Err(AllocError),
-    }
-}
-
-/// The same message, in a place of its own: what a slow call is handed lies in memory, and what is read on the quick path
-/// need not.
-#[inline(always)]
-fn again<'h>(heard: &Heard<'h>) -> Heard<'h>
-    ensures { result ≡ heard.now }
-{
-    Heard {
-        message: Message {
-            source: heard.message.source,
-            pgn: heard.message.pgn,
-            payload: heard.message.payload,
-            stamp: heard.message.stamp,
-        },
-        destination: heard.destination,
-        name: heard.name,
     }
 }
 

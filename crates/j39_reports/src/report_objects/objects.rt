@@ -1,5 +1,5 @@
 //! The objects of a message.
-ghost use Rattle.std.specs.Prelude.{◌≡◌, ◌++◌, codes, decimal};
+ghost use Rattle.std.specs.Prelude.{◌≡◌, ◌++◌, codes, decimal, false};
 ghost use Rattle.j39_io.specs.Puts.{Puts};
 ghost use Rattle.j39_io.specs.Turn.{turn};
 ghost use Rattle.std.specs.Option.{option_map};
@@ -10,7 +10,7 @@ ghost use Rattle.j39_groups.specs.Models.{value_of};
 ghost use Rattle.j39_groups.specs.Names.{group_name_in, name_in, state_in};
 ghost use Rattle.j39_listen.specs.HeardModel.{hearing_of};
 ghost use Rattle.j39_reports.specs.EntryObject.{group_member, opening_text, parameter_members, value_json, value_members};
-ghost use Rattle.j39_reports.specs.Forwards.{Gathers, waiting_text};
+ghost use Rattle.j39_reports.specs.Forwards.{Gathers, head_text, waiting_text};
 ghost use Rattle.j39_reports.specs.MessageObjects.{opened};
 ghost use Rattle.j39_reports.specs.Json.{bytes_member, string_or_null};
 ghost use Rattle.j39_rows.specs.Json.{string_text};
@@ -22,9 +22,10 @@ use crate::report_objects::object_sides::ObjectSides;
 use crate::report_objects::quick_object::object_before;
 use crate::report_records::digits_before;
 use crate::second::Second;
-use crate::sides::{KnownSides, Missed, note, unit_in};
+use crate::sides::{KnownSides, Missed, unit_in};
 use crate::waiting::{BLOCK, Waiting};
 use arrayvec::ArrayVec;
+use j39_frame::Pgn;
 use j39_groups::{Groups, ReadingVisitor, Value, push_decimal};
 use j39_io::backwards::{bytes_before, tail_before};
 use j39_io::printing::push_bytes;
@@ -37,8 +38,7 @@ use j39_rows::{put_bytes_under, put_string};
 pub(crate) struct Objects<'k, 'g, 't, 'b> {
     known: &'k KnownSides<'g, 't, ObjectSides>,
     opening: &'b mut Head,
-    group: Option<&'g [u8]>,
-    pgn: u32,
+    pgn: Pgn,
     lines: u64,
     missed: Option<Missed<'t>>,
     waiting: &'b mut Waiting,
@@ -60,14 +60,12 @@ impl<'k, 'g, 't, 'b> Objects<'k, 'g, 't, 'b> {
         ensures none { result.lines ≡ 0 }
         ensures waiting { result.waiting.now.at ≡ 0 }
     {
-        let pgn = heard.message.pgn;
-        let group = open_with(opening, known, heard, second);
+        open_with(opening, known, heard, second);
         waiting.at = 0;
         Objects {
             known,
             opening,
-            group,
-            pgn: pgn.raw(),
+            pgn: heard.message.pgn,
             lines: 0,
             missed: None,
             waiting,
@@ -149,17 +147,16 @@ impl<'k, 'g, 't, 'b, W: Sink> ReadingVisitor<'t, W> for Objects<'k, 'g, 't, 'b> 
 
     #[inline(always)]
     fn visit(&mut self, spn: u32, value: Value<'t, '_>, sink: &mut W) -> Result<(), DeviceFault> {
-        let missed = put_entry(
+        put_entry(
             self.waiting,
             self.opening,
-            self.group,
             self.known,
+            &mut self.missed,
             self.pgn,
             spn,
             value,
             sink,
         )?;
-        note(&mut self.missed, missed);
         self.lines = self.lines.saturating_add(1);
         Ok(())
     }
@@ -170,90 +167,87 @@ impl<'k, 'g, 't, 'b, W: Sink> ReadingVisitor<'t, W> for Objects<'k, 'g, 't, 'b> 
     }
 }
 
-/// What the objects of a message begin with, and what the group is called, where that is remembered; else it answers that.
+/// Writes what the objects of a message begin with, and what the group is called, where that is remembered.
 #[inline(always)]
-fn open_with<'g>(
+fn open_with(
     opening: &mut Head,
-    known: &KnownSides<'g, '_, ObjectSides>,
+    known: &KnownSides<'_, '_, ObjectSides>,
     heard: &Heard<'_>,
     second: &mut Second,
-) -> Option<&'g [u8]>
-    ensures { opened opening.new (option_map (λ name. name.now) result) ≡ opening_text (stamp_micros heard.now.message.stamp)
-        heard.now.message.source heard.now.destination (option_map name_raw heard.now.name) (pgn_raw heard.now.message.pgn)
+)
+    ensures { opened opening.new (group_name_in known.now.groups.now (pgn_raw heard.now.message.pgn))
+        ≡ opening_text (stamp_micros heard.now.message.stamp) heard.now.message.source heard.now.destination
+        (option_map name_raw heard.now.name) (pgn_raw heard.now.message.pgn)
         ++ group_member (group_name_in known.now.groups.now (pgn_raw heard.now.message.pgn)) }
 {
-    let Some(side) = known.of_group(heard.message.pgn.raw()) else {
-        return open_unknown(opening, known.groups, heard, second);
-    };
-    let group = tail_before(&mut opening.block, HEAD, &side.text, side.from);
-    opening.from = heard_before(&mut opening.block, group, heard, second);
-    opening.has_group = true;
-    None
+    match known.of_group(heard.message.pgn.raw()) {
+        Some(side) => {
+            let group = tail_before(&mut opening.block, HEAD, &side.text, side.from);
+            opening.from = heard_before(&mut opening.block, group, heard, second);
+            opening.has_group = true;
+        }
+        None => open_unknown(opening, &heard.again(), second),
+    }
 }
 
-/// The same of a group that isn't remembered, and answers what it is called.
+/// The same of a group that isn't remembered.
 #[inline(never)]
-fn open_unknown<'r>(
-    opening: &mut Head,
-    groups: &'r Groups<'_>,
-    heard: &Heard<'_>,
-    second: &mut Second,
-) -> Option<&'r [u8]>
-    ensures { opened opening.new (option_map (λ name. name.now) result) ≡ opening_text (stamp_micros heard.now.message.stamp)
-        heard.now.message.source heard.now.destination (option_map name_raw heard.now.name) (pgn_raw heard.now.message.pgn)
-        ++ group_member (group_name_in groups.now (pgn_raw heard.now.message.pgn)) }
+fn open_unknown(opening: &mut Head, heard: &Heard<'_>, second: &mut Second)
+    ensures head { head_text opening.new ≡ opening_text (stamp_micros heard.now.message.stamp) heard.now.message.source
+        heard.now.destination (option_map name_raw heard.now.name) (pgn_raw heard.now.message.pgn) }
+    ensures without_group { opening.new.has_group ≡ false }
 {
     let number = digits_before(&mut opening.block, HEAD, heard.message.pgn.raw());
     let key = bytes_before(&mut opening.block, number, *b",\"pgn\":");
     opening.from = heard_before(&mut opening.block, key, heard, second);
     opening.has_group = false;
-    groups.group_name(heard.message.pgn)
 }
 
-/// Puts the object of a reading behind those that wait, or writes them and it, and answers what can be learned of its parameter.
+/// Puts the object of a reading behind those that wait, or writes them and it.
 #[inline(always)]
 fn put_entry<'t, W: Sink>(
     waiting: &mut Waiting,
     opening: &Head,
-    group: Option<&[u8]>,
     known: &KnownSides<'_, 't, ObjectSides>,
-    pgn: u32,
+    missed: &mut Option<Missed<'t>>,
+    pgn: Pgn,
     spn: u32,
     value: Value<'t, '_>,
     sink: &mut W,
-) -> Result<Option<Missed<'t>>, DeviceFault>
-    ensures { Gathers (waiting_text waiting.old) (opened opening.now (option_map (λ text. text.now) group.entry)
-        ++ (parameter_members spn (name_in known.now.groups.now pgn spn)
-        ++ value_members (value_of value.entry) (state_in known.now.groups.now pgn spn (value_of value.entry))))
+) -> Result<(), DeviceFault>
+    ensures { Gathers (waiting_text waiting.old) (opened opening.now (group_name_in known.now.groups.now (pgn_raw pgn))
+        ++ (parameter_members spn (name_in known.now.groups.now (pgn_raw pgn) spn)
+        ++ value_members (value_of value.entry) (state_in known.now.groups.now (pgn_raw pgn) spn (value_of value.entry))))
         (waiting_text waiting.new) result (turn W.written W.has_failed sink.old sink.new) }
 {
     if waiting.push(opening, known, pgn, spn, value) {
-        return Ok(None);
+        return Ok(());
     }
-    put_unknown(waiting, opening, group, known.groups, pgn, spn, value, sink)?;
-    let unit = value.unit();
-    Ok(known.missed(pgn, spn, unit))
+    put_unknown(waiting, opening, known, missed, pgn, spn, value, sink)
 }
 
-/// Writes the objects that wait, and that of a reading whose sides aren't known.
+/// Writes the objects that wait, and that of a reading whose sides aren't known, and notes what can be learned of its parameter.
 #[inline(never)]
-fn put_unknown<W: Sink>(
+fn put_unknown<'t, W: Sink>(
     waiting: &mut Waiting,
     opening: &Head,
-    group: Option<&[u8]>,
-    groups: &Groups<'_>,
-    pgn: u32,
+    known: &KnownSides<'_, 't, ObjectSides>,
+    missed: &mut Option<Missed<'t>>,
+    pgn: Pgn,
     spn: u32,
-    value: Value<'_, '_>,
+    value: Value<'t, '_>,
     sink: &mut W,
 ) -> Result<(), DeviceFault>
-    ensures { Gathers (waiting_text waiting.old) (opened opening.now (option_map (λ text. text.now) group.entry)
-        ++ (parameter_members spn (name_in groups.now pgn spn)
-        ++ value_members (value_of value.entry) (state_in groups.now pgn spn (value_of value.entry))))
+    ensures { Gathers (waiting_text waiting.old) (opened opening.now (group_name_in known.now.groups.now (pgn_raw pgn))
+        ++ (parameter_members spn (name_in known.now.groups.now (pgn_raw pgn) spn)
+        ++ value_members (value_of value.entry) (state_in known.now.groups.now (pgn_raw pgn) spn (value_of value.entry))))
         (waiting_text waiting.new) result (turn W.written W.has_failed sink.old sink.new) }
 {
     waiting.put(sink)?;
-    let (parameter, state) = groups.called_in(pgn, spn, value);
+    let number = pgn.raw();
+    *missed = known.missed(number, spn, value.unit()).or(*missed);
+    let group = known.groups.group_name(pgn);
+    let (parameter, state) = known.groups.called_in(number, spn, value);
     put_object(
         &mut waiting.block,
         opening,

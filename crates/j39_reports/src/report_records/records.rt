@@ -1,5 +1,5 @@
 //! The records of a message.
-ghost use Rattle.std.specs.Prelude.{◌≡◌, ◌+◌, ◌≤◌, ◌++◌, ◌∷◌, [], decimal, option_map, unwrap_or};
+ghost use Rattle.std.specs.Prelude.{◌≡◌, ◌++◌, ◌∷◌, decimal, false};
 ghost use Rattle.std.specs.List.{flat_map};
 ghost use Rattle.j39_io.specs.Puts.{Puts};
 ghost use Rattle.j39_io.specs.Turn.{turn};
@@ -12,7 +12,7 @@ ghost use Rattle.j39_groups.specs.Models.{value_of};
 ghost use Rattle.j39_listen.specs.HeardModel.{hearing_of};
 ghost use Rattle.j39_reports.specs.Columns.{last_field};
 ghost use Rattle.j39_reports.specs.EntryText.{begin_text, group_called, named_fields, parameter_called, state_called, value_fields};
-ghost use Rattle.j39_reports.specs.Forwards.{Gathers, waiting_text};
+ghost use Rattle.j39_reports.specs.Forwards.{Gathers, head_text, waiting_text};
 ghost use Rattle.j39_reports.specs.MessageRecords.{begun_fields};
 
 use crate::head::{HEAD, Head};
@@ -20,7 +20,7 @@ use crate::report_records::quick_record::record_before;
 use crate::report_records::record_head::{begin_before, heard_before};
 use crate::report_records::record_sides::{RecordSides, or_nothing};
 use crate::second::Second;
-use crate::sides::{KnownSides, Missed, note};
+use crate::sides::{KnownSides, Missed};
 use crate::waiting::{BLOCK, Waiting};
 use arrayvec::ArrayVec;
 use j39_frame::Pgn;
@@ -34,8 +34,7 @@ use j39_listen::{EntryForm, Heard};
 pub(crate) struct Records<'k, 'g, 't, 'b> {
     known: &'k KnownSides<'g, 't, RecordSides>,
     begin: &'b mut Head,
-    group: &'g [u8],
-    pgn: u32,
+    pgn: Pgn,
     lines: u64,
     missed: Option<Missed<'t>>,
     waiting: &'b mut Waiting,
@@ -57,14 +56,12 @@ impl<'k, 'g, 't, 'b> Records<'k, 'g, 't, 'b> {
         ensures none { result.lines ≡ 0 }
         ensures waiting { result.waiting.now.at ≡ 0 }
     {
-        let pgn = heard.message.pgn;
-        let group = begin_with(begin, known, heard, second);
+        begin_with(begin, known, heard, second);
         waiting.at = 0;
         Records {
             known,
             begin,
-            group,
-            pgn: pgn.raw(),
+            pgn: heard.message.pgn,
             lines: 0,
             missed: None,
             waiting,
@@ -146,17 +143,16 @@ impl<'k, 'g, 't, 'b, W: Sink> ReadingVisitor<'t, W> for Records<'k, 'g, 't, 'b> 
 
     #[inline(always)]
     fn visit(&mut self, spn: u32, value: Value<'t, '_>, sink: &mut W) -> Result<(), DeviceFault> {
-        let missed = put_entry(
+        put_entry(
             self.waiting,
             self.begin,
-            self.group,
             self.known,
+            &mut self.missed,
             self.pgn,
             spn,
             value,
             sink,
         )?;
-        note(&mut self.missed, missed);
         self.lines = self.lines.saturating_add(1);
         Ok(())
     }
@@ -168,88 +164,86 @@ impl<'k, 'g, 't, 'b, W: Sink> ReadingVisitor<'t, W> for Records<'k, 'g, 't, 'b> 
 }
 
 /// Writes what the records of a message begin with: the moment, the address, the NAME and the PGN, and what the group is called,
-/// where that is remembered; else it answers that.
+/// where that is remembered.
 #[inline(always)]
-fn begin_with<'g>(
+fn begin_with(
     begin: &mut Head,
-    known: &KnownSides<'g, '_, RecordSides>,
+    known: &KnownSides<'_, '_, RecordSides>,
     heard: &Heard<'_>,
     second: &mut Second,
-) -> &'g [u8]
-    ensures { begun_fields begin.new result.now ≡ begin_text (stamp_micros heard.now.message.stamp) heard.now.message.source
-        heard.now.destination (option_map name_raw heard.now.name) (pgn_raw heard.now.message.pgn)
+)
+    ensures { begun_fields begin.new (group_called known.now.groups.now (pgn_raw heard.now.message.pgn))
+        ≡ begin_text (stamp_micros heard.now.message.stamp) heard.now.message.source heard.now.destination
+        (option_map name_raw heard.now.name) (pgn_raw heard.now.message.pgn)
         ++ later_text (group_called known.now.groups.now (pgn_raw heard.now.message.pgn)) }
 {
-    let Some(side) = known.of_group(heard.message.pgn.raw()) else {
-        return begin_unknown(begin, known.groups, heard, second);
-    };
-    let group = tail_before(&mut begin.block, HEAD, &side.text, side.from);
-    begin.from = heard_before(&mut begin.block, group, heard, second);
-    begin.has_group = true;
-    b""
+    match known.of_group(heard.message.pgn.raw()) {
+        Some(side) => {
+            let group = tail_before(&mut begin.block, HEAD, &side.text, side.from);
+            begin.from = heard_before(&mut begin.block, group, heard, second);
+            begin.has_group = true;
+        }
+        None => begin_unknown(begin, &heard.again(), second),
+    }
 }
 
-/// The same of a group that isn't remembered, and answers what it is called.
+/// The same of a group that isn't remembered.
 #[inline(never)]
-fn begin_unknown<'r>(
-    begin: &mut Head,
-    groups: &'r Groups<'_>,
-    heard: &Heard<'_>,
-    second: &mut Second,
-) -> &'r [u8]
-    ensures { begun_fields begin.new result.now ≡ begin_text (stamp_micros heard.now.message.stamp) heard.now.message.source
-        heard.now.destination (option_map name_raw heard.now.name) (pgn_raw heard.now.message.pgn)
-        ++ later_text (group_called groups.now (pgn_raw heard.now.message.pgn)) }
+fn begin_unknown(begin: &mut Head, heard: &Heard<'_>, second: &mut Second)
+    ensures head { head_text begin.new ≡ begin_text (stamp_micros heard.now.message.stamp) heard.now.message.source
+        heard.now.destination (option_map name_raw heard.now.name) (pgn_raw heard.now.message.pgn) }
+    ensures without_group { begin.new.has_group ≡ false }
 {
     begin.from = begin_before(&mut begin.block, heard, second);
     begin.has_group = false;
-    group_of(groups, heard.message.pgn)
 }
 
-/// Puts the record of a reading behind those that wait, or writes them and it, and answers what can be learned of its parameter.
+/// Puts the record of a reading behind those that wait, or writes them and it.
 #[inline(always)]
 fn put_entry<'t, W: Sink>(
     waiting: &mut Waiting,
     begin: &Head,
-    group: &[u8],
     known: &KnownSides<'_, 't, RecordSides>,
-    pgn: u32,
+    missed: &mut Option<Missed<'t>>,
+    pgn: Pgn,
     spn: u32,
     value: Value<'t, '_>,
     sink: &mut W,
-) -> Result<Option<Missed<'t>>, DeviceFault>
+) -> Result<(), DeviceFault>
     ensures { Gathers (waiting_text waiting.old)
-        (named_fields (begun_fields begin.now group.now) spn (parameter_called known.now.groups.now pgn spn)
-        ++ value_fields (value_of value.entry) (state_called known.now.groups.now pgn spn (value_of value.entry)))
+        (named_fields (begun_fields begin.now (group_called known.now.groups.now (pgn_raw pgn))) spn
+        (parameter_called known.now.groups.now (pgn_raw pgn) spn)
+        ++ value_fields (value_of value.entry) (state_called known.now.groups.now (pgn_raw pgn) spn (value_of value.entry)))
         (waiting_text waiting.new) result (turn W.written W.has_failed sink.old sink.new) }
 {
     if waiting.push(begin, known, pgn, spn, value) {
-        return Ok(None);
+        return Ok(());
     }
-    put_unknown(waiting, begin, group, known.groups, pgn, spn, value, sink)?;
-    let unit = value.unit();
-    Ok(known.missed(pgn, spn, unit))
+    put_unknown(waiting, begin, known, missed, pgn, spn, value, sink)
 }
 
-/// Writes the records that wait, and that of a reading whose sides aren't known.
+/// Writes the records that wait, and that of a reading whose sides aren't known, and notes what can be learned of its parameter.
 #[inline(never)]
-fn put_unknown<W: Sink>(
+fn put_unknown<'t, W: Sink>(
     waiting: &mut Waiting,
     begin: &Head,
-    group: &[u8],
-    groups: &Groups<'_>,
-    pgn: u32,
+    known: &KnownSides<'_, 't, RecordSides>,
+    missed: &mut Option<Missed<'t>>,
+    pgn: Pgn,
     spn: u32,
-    value: Value<'_, '_>,
+    value: Value<'t, '_>,
     sink: &mut W,
 ) -> Result<(), DeviceFault>
     ensures { Gathers (waiting_text waiting.old)
-        (named_fields (begun_fields begin.now group.now) spn (parameter_called groups.now pgn spn)
-        ++ value_fields (value_of value.entry) (state_called groups.now pgn spn (value_of value.entry)))
+        (named_fields (begun_fields begin.now (group_called known.now.groups.now (pgn_raw pgn))) spn
+        (parameter_called known.now.groups.now (pgn_raw pgn) spn)
+        ++ value_fields (value_of value.entry) (state_called known.now.groups.now (pgn_raw pgn) spn (value_of value.entry)))
         (waiting_text waiting.new) result (turn W.written W.has_failed sink.old sink.new) }
 {
     waiting.put(sink)?;
-    let Called { parameter, state } = called_in(groups, pgn, spn, value);
+    *missed = known.missed(pgn.raw(), spn, value.unit()).or(*missed);
+    let group = group_of(known.groups, pgn);
+    let Called { parameter, state } = called_in(known.groups, pgn, spn, value);
     put_record(
         &mut waiting.block,
         begin,
@@ -361,11 +355,11 @@ struct Called<'r> {
     state: &'r [u8],
 }
 
-fn called_in<'r>(groups: &'r Groups<'_>, pgn: u32, spn: u32, value: Value<'_, '_>) -> Called<'r>
-    ensures parameter { result.parameter.now ≡ parameter_called groups.now pgn spn }
-    ensures state { result.state.now ≡ state_called groups.now pgn spn (value_of value.entry) }
+fn called_in<'r>(groups: &'r Groups<'_>, pgn: Pgn, spn: u32, value: Value<'_, '_>) -> Called<'r>
+    ensures parameter { result.parameter.now ≡ parameter_called groups.now (pgn_raw pgn) spn }
+    ensures state { result.state.now ≡ state_called groups.now (pgn_raw pgn) spn (value_of value.entry) }
 {
-    let (parameter, state) = groups.called_in(pgn, spn, value);
+    let (parameter, state) = groups.called_in(pgn.raw(), spn, value);
     Called {
         parameter: or_nothing(parameter),
         state: or_nothing(state),

@@ -8,8 +8,8 @@ use Rattle.j39_reports.proofs.report_records.records.begin_with.Goals as goal
 joined : (fields number later : List ℕ) → fields ++ ((44 ∷ number) ++ later) ≡ (fields ++ (44 ∷ []) ++ number) ++ later
 joined fields number later = simp append_assoc refl
 
-pub returns : goal.returns
-returns c =
+pub returns-in-Some : goal.returns-in-Some
+returns-in-Some c =
     let heard = c.args.heard.now in
     let groups = c.args.known.now.groups.now in
     let pgn = pgn_raw heard.message.pgn in
@@ -21,3 +21,6 @@ returns c =
     part_before _ _ 192 _ _ (before_then _ _ _ _ _ _ _ _
     (subst (WritesBefore c.args.begin.now.block c.tail_before-group.new.out 192 c.tail_before-group.result) said c.tail_before-group.ensures.written) c.heard_before-begin.ensures)
     ∙ joined fields (decimal pgn) later
+
+pub returns-in-None : goal.returns-in-None
+returns-in-None c = rw (c.begin_unknown.ensures.without_group, c.begin_unknown.ensures.head, c.again.ensures) refl

@@ -1,8 +1,8 @@
 -- It was put behind those that wait, or they and it were written.
-use Rattle.j39_reports.proofs.Common.{◌∙◌, ◌++◌, [], List, Option, ap, ℕ, unwrap_or, value_of}
-use Rattle.j39_reports.specs.EntryText.{parameter_called, state_called}
+use Rattle.j39_reports.proofs.Common.{◌∙◌, ◌++◌, [], List, Option, ap, ℕ, pgn_raw, unwrap_or, value_of}
+use Rattle.j39_reports.specs.EntryText.{group_called, parameter_called, state_called}
 use Rattle.j39_reports.specs.Forwards.{waiting_text}
-use Rattle.j39_reports.proofs.ForwardLemmas.{gathers_done, gathers_from, gathers_handed, gathers_more}
+use Rattle.j39_reports.proofs.ForwardLemmas.{gathers_from, gathers_more}
 use Rattle.j39_reports.proofs.RecordLemmas.{record_by_sides}
 use Rattle.j39_reports.proofs.report_records.records.put_entry.Goals as goal
 
@@ -10,13 +10,10 @@ pub returns-then-push : goal.returns-then-push
 returns-then-push g c =
     let groups = c.args.known.now.groups.now in
     let value = value_of c.args.value in
+    let pgn = pgn_raw c.args.pgn in
     gathers_more _ _ _ _ _ (c.push.ensures.pushed c.if-push.true ∙ ap (λ text. waiting_text c.args.waiting.now ++ text)
-    (record_by_sides c.args.begin.now c.args.group.now (parameter_called groups c.args.pgn c.args.spn) (state_called groups c.args.pgn c.args.spn value) c.args.spn value
+    (record_by_sides c.args.begin.now (group_called groups pgn) (parameter_called groups pgn c.args.spn) (state_called groups pgn c.args.spn value) c.args.spn value
     (c.push.ensures.group c.if-push.true) (ap (λ (state : Option (List ℕ)). unwrap_or state []) (c.push.ensures.stateless c.if-push.true))))
 
-pub returns-in_err-put_unknown : goal.returns-in_err-put_unknown
-returns-in_err-put_unknown g c =
-    gathers_handed _ _ _ _ _ _ c.from_residual.ensures.0 (gathers_from _ _ _ _ _ _ (c.push.ensures.kept c.if-push.false) c.in_err-put_unknown.ensures)
-
 pub returns : goal.returns
-returns g c = gathers_done _ _ _ _ _ _ _ (gathers_from _ _ _ _ _ _ (c.push.ensures.kept c.if-push.false) c.in_ok-put_unknown.ensures)
+returns g c = gathers_from _ _ _ _ _ _ (c.push.ensures.kept c.if-push.false) c.put_unknown.ensures

@@ -6,12 +6,12 @@ use Rattle.j39_reports.proofs.EntryLemmas.{stops_here, takes_this}
 use Rattle.j39_reports.proofs.RecordLemmas.{record_is}
 use Rattle.j39_reports.proofs.report_records.records.RecordsReadingVisitor.visit.Goals as goal
 
-pub returns-in_err-missed-clause-stopped : goal.returns-in_err-missed-clause-stopped
-returns-in_err-missed-clause-stopped g c =
+pub returns-in_err-put_entry-clause-stopped : goal.returns-in_err-put_entry-clause-stopped
+returns-in_err-put_entry-clause-stopped g c =
     on_err c.from_residual.result _ (λ subject before has.
     rw (filter_map-append told_by before (visited c.args.spn c.args.value ∷ []))
     (stops_here entry_record subject (told_in before) _ _ c.args.self.now.lines _ _ _ _ has.have
-    (gathers_as _ _ _ _ _ _ (record_is subject.groups subject.hearing c.args.self.now has.is_begun c.args.spn (value_of c.args.value)) c.in_err-missed.ensures)))
+    (gathers_as _ _ _ _ _ _ (record_is subject.groups subject.hearing c.args.self.now has.is_begun c.args.spn (value_of c.args.value)) c.in_err-put_entry.ensures)))
 
 pub returns-clause-taken : goal.returns-clause-taken
 returns-clause-taken g c = λ subject before has.
@@ -19,5 +19,5 @@ returns-clause-taken g c = λ subject before has.
     (record {
       is_begun = record { by = has.is_begun.by; begin_is = has.is_begun.begin_is; pgn_is = has.is_begun.pgn_is };
       have = takes_this entry_record subject (told_in before) _ c.args.self.now.lines _ _ _ _ _ _ has.have c.saturating_add-self.ensures
-          (gathers_as _ _ _ _ _ _ (record_is subject.groups subject.hearing c.args.self.now has.is_begun c.args.spn (value_of c.args.value)) c.in_ok-missed.ensures);
+          (gathers_as _ _ _ _ _ _ (record_is subject.groups subject.hearing c.args.self.now has.is_begun c.args.spn (value_of c.args.value)) c.in_ok-put_entry.ensures);
     })
