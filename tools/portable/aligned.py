@@ -3,11 +3,12 @@
 What the kit moves whole it moves without saying where that lies, and a machine that can't read across words takes it byte by byte. But a
 place on the stack and a constant say it; an address is a step from another; a parameter is what all callers hand over; and where a
 number is loaded or stored through a pointer at a multiple of eight, what that points to has such a number in it, and lies so wherever
-it is: in Rattle a pointer has one type."""
+it is: in Rattle a pointer has one type. Only code that looks at an address could go another way where it lies otherwise, so there an
+address may be taken from another, and no more."""
 
 from math import gcd
 
-from llvm import Function, Global
+from llvm import Function, Global, refuse
 
 MOST = 16
 
@@ -33,7 +34,7 @@ class Places:
 
     def __init__(self, function, constants):
         self.function, self.constants = function, constants
-        self.steps, self.said = {}, {}
+        self.steps, self.said, self.addresses = {}, {}, set()
         self.handed = {name: 1 if function.is_public else MOST for kind, name in function.parameters if kind.kind == "ptr"}
         slots = slots_of(function)
         for _, instructions in function.blocks:
@@ -42,6 +43,10 @@ class Places:
 
     def note(self, it, slots):
         """What an instruction tells."""
+        if it.op != "sub" and any(value.text in self.addresses for _, value in it.values):
+            refuse(it.line, "what is done with an address isn't known")
+        if it.op in ("ptrtoaddr", "ptrtoint"):
+            self.addresses.add(it.dest)
         if it.op == "alloca":
             self.said[it.dest] = it.alignment
         elif it.op == "getelementptr":
