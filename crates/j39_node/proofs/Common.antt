@@ -96,6 +96,6 @@ pub use Rattle.j39_node.specs.declared.outgoing.Outgoing.{Outgoing}
 pub use Rattle.j39_node.specs.declared.own.Own.{Own}
 pub use Rattle.j39_node.specs.declared.requests.Due.{Due}
 pub use Rattle.j39_node.specs.declared.requests.Request.{Request}
-pub use Rattle.j39_node.specs.declared.turn.Ready.{Ready}
+pub use Rattle.j39_node.specs.Is.{Ready}
 pub use Rattle.j39_node.specs.declared.turn.Turn.{Turn}
 pub use Rattle.j39_node.specs.declared.turn.Turn.TheVariants.{Move, Reply, Single}

@@ -7,7 +7,6 @@ use Rattle.j39_node.specs.declared.heard.Heard.TheVariants as read
 use Rattle.j39_node.specs.declared.hold.Hold.{Hold}
 use Rattle.j39_node.specs.declared.lane.Lane.{Lane}
 use Rattle.j39_node.specs.declared.lane.Open.{Open}
-use Rattle.j39_node.specs.declared.turn.Ready.{Ready}
 use Rattle.j39_node.specs.declared.turn.Turn.{Turn}
 use Rattle.j39_node.specs.declared.turn.Turn.TheVariants.{Reply, Single, Packet, Move}
 use Rattle.j39_address.specs.Claim.{claim_by}
@@ -85,8 +84,15 @@ abbrev pub is_apart : Option Message → Option Message → Bool
 is_apart None reply = false
 is_apart (Some m) reply = not (is_that m reply)
 
--- what is due beside claims and acknowledgments: such a frame; a reply that waits; a message that was accepted and wasn't taken; a frame
--- of the open broadcast, overdue or not; one of a transfer
+-- what is due beside claims and acknowledgments: an overdue frame of the open broadcast; a reply that waits; a message that was accepted and
+-- wasn't taken; a frame of the open broadcast, overdue or not; one of a transfer
+pub record Ready : Type 0 where
+  pub overdue : Bool
+  pub reply : Bool
+  pub message : Bool
+  pub packet : Bool
+  pub transfer : Bool
+
 abbrev pub ready : Who → List Call → ℕ → Ready
 ready w H now = record {
   overdue = is_overdue w H now;

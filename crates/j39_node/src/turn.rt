@@ -1,7 +1,6 @@
 //! What goes next, beside claims and acknowledgments.
 ghost use Rattle.std.specs.Prelude.{◌≡◌, Some};
 ghost use Rattle.j39_node.specs.History.{message_of};
-ghost use Rattle.j39_node.specs.Is.{turn_of};
 ghost use Rattle.j39_node.specs.Reception.{is_that};
 ghost use Rattle.j39_sessions.specs.Sessions.{is_same};
 ghost use Rattle.std.specs.Str.{bytes_eq};
@@ -19,44 +18,6 @@ pub(crate) enum Turn {
     Packet,
     /// A frame of a transfer.
     Move,
-}
-
-/// What is due.
-#[derive(Clone, Copy)]
-pub(crate) struct Ready {
-    /// A frame of the open broadcast has been due for 100 ms.
-    pub(crate) overdue: bool,
-    pub(crate) reply: bool,
-    pub(crate) message: bool,
-    pub(crate) packet: bool,
-    pub(crate) transfer: bool,
-}
-
-impl Ready {
-    /// What goes first: an overdue frame, a reply, unless it yields, a message, a frame of the open broadcast, one of a
-    /// transfer.
-    pub(crate) fn turn(self, yields: bool) -> Option<Turn>
-        ensures { result ≡ turn_of yields self }
-    {
-        if self.overdue {
-            return Some(Turn::Packet);
-        }
-        let gives_way = yields && (self.message || self.packet || self.transfer);
-        if self.reply && !gives_way {
-            return Some(Turn::Reply);
-        }
-        if self.message {
-            return Some(Turn::Single);
-        }
-        if self.packet {
-            return Some(Turn::Packet);
-        }
-        if self.transfer {
-            Some(Turn::Move)
-        } else {
-            None
-        }
-    }
 }
 
 /// Whether one is the very frame that another is, but for stamp, priority and source.

@@ -18,7 +18,7 @@ use crate::controller::Controller;
 use crate::hold::{Hold, SLACK};
 use crate::outgoing::past;
 use crate::requests::Due;
-use crate::turn::{Ready, Turn, is_that};
+use crate::turn::{Turn, is_that};
 use j39_frame::{Frame, GLOBAL_ADDRESS, NULL_ADDRESS, Stamp};
 
 impl Controller {
@@ -149,25 +149,30 @@ impl Controller {
         }
     }
 
-    /// What goes next, beside claims and acknowledgments.
+    /// What goes next, beside claims and acknowledgments: an overdue frame of the open broadcast, a reply, unless it yields, a message, a
+    /// frame of that broadcast, one of a transfer.
+    // A transfer's frame is made to see whether it is due, so it is asked for last.
     fn turn(&self, hold: Hold, now: Stamp) -> Option<Turn>
         ensures { result ≡ turn_of hold.yields (ready_in self.now hold) }
     {
-        self.ready(hold, now).turn(hold.yields)
-    }
-
-    /// What is due, beside claims and acknowledgments.
-    fn ready(&self, hold: Hold, now: Stamp) -> Ready
-        ensures { result ≡ ready_in self.now hold }
-    {
         let is_left = self.lane.is_left();
-        Ready {
-            overdue: is_left && hold.pause == 0,
-            reply: self.incoming.has_reply(),
-            message: self.taken < self.outgoing.len(),
-            packet: is_left && hold.pause <= SLACK,
-            transfer: self.sends_apart(hold, now),
+        if is_left && hold.pause == 0 {
+            return Some(Turn::Packet);
         }
+        let replies = self.incoming.has_reply();
+        if replies && !hold.yields {
+            return Some(Turn::Reply);
+        }
+        if self.taken < self.outgoing.len() {
+            return Some(Turn::Single);
+        }
+        if is_left && hold.pause <= SLACK {
+            return Some(Turn::Packet);
+        }
+        if self.sends_apart(hold, now) {
+            return Some(Turn::Move);
+        }
+        if replies { Some(Turn::Reply) } else { None }
     }
 
     /// A frame of a transfer is due, and isn't the very frame that the first reply is.
