@@ -427,8 +427,8 @@ typedef struct {
 /* How many bytes .._at wants for each kind of handle, wherever they begin; .._size answers the same of the library that a program is
  * linked with. A listener's and an assembler's have room for so many messages in packets that are open at once, the one handed out
  * last among them, at most 271; a sender's for so many bytes of a message, a controller's for so many broadcasts, sessions and transfers,
- * answers' for so many requests that are open at once, an outbox's for so many messages and requests whose end isn't told. No call with
- * such a handle takes other memory. */
+ * and unless these are 0 for one broadcast of its own; answers' for so many requests that are open at once, an outbox's for so many
+ * messages and requests whose end isn't told. No call with such a handle takes other memory. */
 /* clang-format off */
 #define J1939_LISTENER_SIZE(messages) (6720 + 1824 * (size_t)(messages))
 #define J1939_ASSEMBLER_SIZE(messages) (4416 + 1824 * (size_t)(messages))
@@ -607,7 +607,7 @@ typedef struct {
     uint8_t window;               /**< how many packets it lets a sender send at once, by a CTS; 0 sets no limit. What your
                                        driver can't take at once is lost, so 16 fits most */
     uint8_t transfers;            /**< how many messages in packets it sends to others' addresses at once, one to each, until their
-                                       ends are taken; with 0 none */
+                                       ends are taken; with 0 none, and none to all */
     const uint32_t *served;       /**< the groups that its program serves: a request for another is refused */
     size_t served_count;          /**< how many these are, 0 to 16 */
     const uint32_t *subscribed;   /**< the groups that it subscribes, where is_subscribed is not 0 */
@@ -615,7 +615,8 @@ typedef struct {
 } j1939_setup;
 
 /** Opens a controller that is made for this. J1939_BAD_VALUE for an address above 253, more groups, or one of 2^18 and above.
- * It takes all its memory here: some 7 kB, and 1.9 kB for each broadcast, session and transfer.
+ * It takes all its memory here: some 5.4 kB, 1.9 kB for each broadcast, session and transfer, and 1.8 kB for a broadcast of its
+ * own, unless transfers is 0.
  * @return 0, J1939_BAD_VALUE, J1939_NO_MEMORY, J1939_IN_USE */
 int32_t j1939_controller_new(j1939_controller *controller, const j1939_setup *setup);
 
@@ -739,7 +740,7 @@ int32_t j1939_controller_move_to(j1939_controller *controller, uint8_t address);
  *  - Up to 8 go in one frame, of a priority 0 (the highest) to 7; a group of PF 240 and above goes to all. J1939_FULL while 16
  *    such, requests too, are accepted and not told by .._take_ended.
  *  - More go in packets, whose frames have priority 7. To all (J1939-21, 5.10.3.5) 50 ms or more from frame to frame, whatever
- *    priority; J1939_FULL while one is accepted and not told. To an address (J1939-21, 5.10.3) as that clears them, before those
+ *    priority; J1939_FULL while one is accepted and not told, and where the setup has no transfers. To an address (J1939-21, 5.10.3) as that clears them, before those
  *    of a larger priority number, by turns with those of the same; J1939_FULL while one to
  *    this address is accepted and not told, or as many are as the setup has transfers; also for 4 s after the end of one of this
  *    group to this address that was not acknowledged, unless it was unsent or refused at once (abort 1, 2), and while twice as many

@@ -918,7 +918,8 @@ static void controllers(void) {
     setup.served = no_group, setup.served_count = 1;
     EXPECT(j1939_controller_new(&controller, &setup) == J1939_BAD_VALUE);
     setup.served = served, setup.served_count = 16;
-    for (long granted = 0; granted < 3; granted++) {
+    /* Its own block, four for each kind of box, one of them the box, and the box of its own broadcast: each is refused in turn. */
+    for (long granted = 0; granted < 14; granted++) {
         allowed = granted;
         EXPECT(j1939_controller_new(&controller, &setup) == J1939_NO_MEMORY && !controller.handle.part);
     }

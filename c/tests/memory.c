@@ -131,6 +131,21 @@ static void sizes(void) {
     EXPECT(j1939_controller_size(NULL) == 0);
 }
 
+/* With no boxes it sends single frames alone, in 6 kB: a broadcast in packets is refused. */
+static void sends_frames(void) {
+    j1939_controller controller = J1939_EMPTY;
+    j1939_frame frame;
+    uint64_t token;
+    setup.broadcasts = setup.sessions = setup.transfers = 0;
+    EXPECT(j1939_controller_size(&setup) <= 6000);
+    EXPECT(j1939_controller_at(&controller, around, 6000, &setup) == 0);
+    EXPECT(j1939_controller_take_frame(&controller, 1, &frame) == 1 && j1939_controller_tick(&controller, 250001) == 0);
+    EXPECT(j1939_controller_send(&controller, 250001, 6, 65260, 255, payload, 9, &token) == J1939_FULL);
+    EXPECT(j1939_controller_send(&controller, 250001, 6, 65260, 255, payload, 8, &token) == 1);
+    EXPECT(j1939_controller_take_frame(&controller, 250001, &frame) == 1 && frame.len == 8);
+    EXPECT(j1939_controller_close(&controller) == 0);
+}
+
 /* Announces a message of a source to all, or a packet of it; whether it is put together by an assembler too. */
 static int32_t feed(uint8_t source, uint16_t k) {
     j1939_frame frame;
@@ -180,6 +195,7 @@ int main(void) {
     EXPECT(j1939_assembler_at(&assembler, NULL, 0) == J1939_NULL && !assembler.handle.memory);
     blocks();
     sizes();
+    sends_frames();
     for (uint8_t room = 0; room < 6; room++) messages_of(room);
     messages_of(64);
     return 0;

@@ -320,7 +320,7 @@ Answers w s (TakeNews answer) = answer ≡ news_of s.lost s.another s.doubled (s
 Answers w s (At now (Acknowledge r answer result)) =
     result ≡ answer_by (holds_at s now) (nat_eq r.destination w.address) (nat_eq (length s.due - length s.acknowledged) 16) tt
 Answers w s (At now (Broadcast group bytes answer)) =
-    answer ≡ answer_by (holds_at s now) (can_broadcast group bytes) (is_open s.broadcast || nat_eq (length s.broadcasts) 18446744073709551615) (length s.broadcasts)
+    answer ≡ answer_by (holds_at s now) (can_broadcast group bytes) (nat_eq w.transfers 0 || (is_open s.broadcast || nat_eq (length s.broadcasts) 18446744073709551615)) (length s.broadcasts)
 Answers w s (TakeBroadcastEnded answer) = answer ≡ broadcast_end s.broadcast (length s.packets) (is_lost s.address)
 Answers w s (ReleaseTransfer answer) = answer ≡ nat_lt 0 (length s.reception.waits)
 Answers w s (At now (Transfer priority group to bytes answer)) =

@@ -831,9 +831,17 @@ move_goes c k now e f = go (option_map carried_by (said (clock k.age) (port_of c
 
 -- ---- broadcasts
 
+-- a box is free where there is one, and no broadcast is open
+free_box : (w : Who) (o : Option Open) (free t : ℕ) (b : Bool) → how_many o + free ≡ min 1 t
+    → (nat_eq free 0 || b) ≡ (nat_eq t 0 || (is_open (option_map (opened w) o) || b))
+free_box w None free t b e = grind (arith, e)
+free_box w (Some x) free t b e = grind (arith, e)
+
 pub busy_is : (w : Who) (H : List Call) (c : Controller) → Is w H c
-    → (is_open (lane_of w c.lane).current || nat_eq c.lane.next_token 18446744073709551615) ≡ is_busy w H
-busy_is w H c h = ap (λ (v : View). is_open v.lane.current || nat_eq v.lane.next_token 18446744073709551615) h.shown
+    → (nat_eq (how_many c.lane.free) 0 || nat_eq c.lane.next_token 18446744073709551615) ≡ is_busy w H
+busy_is w H c h =
+    free_box w c.lane.current (how_many c.lane.free) w.transfers (nat_eq c.lane.next_token 18446744073709551615) (ap (λ (v : View). v.lane.boxes) h.shown)
+    ∙ ap (λ (v : View). nat_eq w.transfers 0 || (is_open v.lane.current || nat_eq v.lane.next_token 18446744073709551615)) h.shown
 
 -- ---- requests to others
 

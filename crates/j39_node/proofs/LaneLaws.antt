@@ -10,22 +10,30 @@ use Rattle.j39_node.proofs.KindLemmas.{packs_it}
 
 -- ---- what broadcast answers
 
--- one is accepted and not told, or there is no token left
+-- there is no box, one is accepted and not told, or there is no token left
 abbrev AtLimit : Who → List Call → Type 0
-AtLimit w H = (length (broadcasts w H) ≡ length (told_broadcasts H) + 1) ⊎ (length (broadcasts w H) ≡ 18446744073709551615)
+AtLimit w H =
+    (w.transfers ≡ 0) ⊎ ((length (broadcasts w H) ≡ length (told_broadcasts H) + 1) ⊎ (length (broadcasts w H) ≡ 18446744073709551615))
 
 pub limit : (w : Who) (H : List Call) → AreAnswered w H → is_busy w H ≡ true → AtLimit w H
-limit w H right e = elim (or_cases (is_open (open_broadcast w H)) _ e) [
-  | inl a ↦ inl (let z = stands_open w (length (told_broadcasts H)) (broadcasts w H) (packets H) (open_broadcast w H) (laned w H right) a in omega (arith, z))
-  | inr b ↦ inr (eqb-true _ _ b)
+limit w H right e = elim (or_cases (nat_eq w.transfers 0) _ e) [
+  | inl n ↦ inl (eqb-true _ _ n)
+  | inr o ↦ inr (elim (or_cases (is_open (open_broadcast w H)) _ o) [
+    | inl a ↦ inl (let z = stands_open w (length (told_broadcasts H)) (broadcasts w H) (packets H) (open_broadcast w H) (laned w H right) a in omega (arith, z))
+    | inr b ↦ inr (eqb-true _ _ b)
+  ])
 ]
 
 pub no_limit : (w : Who) (H : List Call) → AreAnswered w H → is_busy w H ≡ false → AtLimit w H → ⊥
 no_limit w H right e l =
-    let n = or_parts (is_open (open_broadcast w H)) _ e in
+    let p = or_parts (nat_eq w.transfers 0) _ e in
+    let n = or_parts (is_open (open_broadcast w H)) _ p.1 in
     elim l [
-      | inl a ↦ (let z = closed w (length (told_broadcasts H)) (broadcasts w H) (packets H) (open_broadcast w H) (laned w H right) n.0 in absurd (omega (arith, z, a)))
-      | inr b ↦ not_both _ n.1 (eq-eqb _ _ b)
+      | inl a ↦ not_both _ p.0 (eq-eqb _ _ a)
+      | inr o ↦ elim o [
+        | inl a ↦ (let z = closed w (length (told_broadcasts H)) (broadcasts w H) (packets H) (open_broadcast w H) (laned w H right) n.0 in absurd (omega (arith, z, a)))
+        | inr b ↦ not_both _ n.1 (eq-eqb _ _ b)
+      ]
     ]
 
 -- ---- which frames are taken

@@ -118,7 +118,7 @@ pub begins_anew : (w : Who) (H : List Call) (old new : Controller) (a : ℕ) →
     → new.hold ≡ hold_moved old.hold
     → new.outgoing ≡ old.outgoing → new.taken ≡ 0 → new.next_token ≡ 0 → new.asking ≡ old.asking → new.inbox.unread ≡ old.inbox.unread → new.inbox.missed ≡ 0
     → new.desk.waiting ≡ old.desk.waiting → new.desk.due.items ≡ [] → new.news ≡ old.news → new.holders ≡ old.holders
-    → new.lane ≡ record { current = None; count = 0; next_token = 0 }
+    → new.lane ≡ record old.lane { count = 0; next_token = 0 }
     → incoming_of new.incoming ≡ record { moment = old.hold.moment; clock = later 0 old.hold.moment; called = record { left = 0; whose = 0 }; reception = record (loses (incoming_of old.incoming).reception) { own = a } }
     → port_of new.transfers ≡ record { state = moves a (port_of old.transfers).state; next_token = 0 } → can_move a (port_of old.transfers).state ≡ true → ((hearing_of old.hearing).listening.waits ≡ [] → hearing_of new.hearing ≡ record { listening = record { current = []; waits = [] }; boxes = (hearing_of old.hearing).boxes; missed = 0 }) → new.hearing.whole ≡ old.hearing.whole
     → HasMoved w H a new
@@ -147,7 +147,8 @@ begins_anew w H old new a h e o1 o2 o5 o3 o4 o6 o7 o9 o8 q1 q2 q3 q4 q5 q6 q7 q8
         acknowledgments = map (refusal_by (moved w H a)) (q9 i);
         news = (q10 ∙ none_untold old.news g4.1) i;
         missed = q7 i;
-        lane = lane_of (moved w H a) (q12 i);
+        lane = (ap (lane_of (moved w H a)) q12
+            ∙ (λ i. (let l : LaneRecord = record { current = none_is _ _ t3.0 i; count = 0; next_token = 0; boxes = (h.shown i).lane.boxes } in l))) i;
         incoming = (q15
             ∙ ((λ i. (let m = (h.shown i).hold.moment in let x : IncomingRecord = record { moment = m; clock = later 0 m; called = record { left = 0; whose = 0 }; reception = none_there old.incoming.sessions a w.window w.sessions a g3.0 most boxes i } in x))
             ∙ (λ i. (let x : IncomingRecord = record { moment = moment H; clock = later 0 (none_less (moment H) i); called = record { left = zero_less (moment H - 0) i; whose = 0 }; reception = none_of a w.window w.sessions } in x)))) i;

@@ -488,9 +488,9 @@ abbrev pub is_open : Option (ℕ × MessageRecord) → Bool
 is_open None = false
 is_open (Some x) = true
 
--- one is open, or as many as there are tokens were accepted
+-- there is no box for it, as with none for transfers; one is open; or as many as there are tokens were accepted
 abbrev pub is_busy : Who → List Call → Bool
-is_busy w H = is_open (open_broadcast w H) || nat_eq (length (broadcasts w H)) last_count
+is_busy w H = nat_eq w.transfers 0 || (is_open (open_broadcast w H) || nat_eq (length (broadcasts w H)) last_count)
 
 -- frame i is one of the broadcast
 abbrev pub is_left : Option (ℕ × MessageRecord) → ℕ → Bool

@@ -364,20 +364,36 @@ pub record IsOthers (w : Who) (H : List Call) (now : ℕ) (k : Hold) : Type 0 wh
   pub held : holds w H now ≡ true
   pub none : next_acknowledgment w H now ≡ None
 
--- the open broadcast, how many of its frames were taken, and the next token
+-- the open broadcast, how many of its frames were taken, the next token, and how many boxes there are: one, where there are any for
+-- transfers
 pub record LaneRecord : Type 0 where
   pub current : Option (ℕ × MessageRecord)
   pub count : ℕ
   pub next_token : ℕ
+  pub boxes : ℕ
 
 abbrev pub opened : Who → Open → ℕ × MessageRecord
-opened w x = (x.token, broadcast_from w (pgn_raw x.group) x.bytes.items)
+opened w x = (x.token, broadcast_from w (pgn_raw x.group) x.bytes.value.items)
+
+abbrev pub how_many : {T : Type 0} → Option T → ℕ
+how_many None = 0
+how_many (Some x) = 1
 
 abbrev pub lane_of : Who → Lane → LaneRecord
-lane_of w l = record { current = option_map (opened w) l.current; count = l.count; next_token = l.next_token }
+lane_of w l = record {
+  current = option_map (opened w) l.current;
+  count = l.count;
+  next_token = l.next_token;
+  boxes = how_many l.current + how_many l.free;
+}
 
 abbrev pub lane_after : Who → List Call → LaneRecord
-lane_after w H = record { current = open_broadcast w H; count = length (packets H); next_token = length (broadcasts w H) }
+lane_after w H = record {
+  current = open_broadcast w H;
+  count = length (packets H);
+  next_token = length (broadcasts w H);
+  boxes = min 1 w.transfers;
+}
 
 -- the sessions, when they were told the time, how late it is there, and whose claim was called for
 pub record IncomingRecord : Type 0 where

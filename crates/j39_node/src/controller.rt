@@ -14,7 +14,7 @@ ghost use Rattle.j39_transfers.specs.Transfers.{none_of as no_transfers};
 ghost use Rattle.j39_node.specs.History.{Who, Call, missed, told_claims, nothing};
 ghost use Rattle.j39_node.specs.Hearing.{unheard};
 ghost use Rattle.j39_node.specs.Moving.{HasMoved, IsSettled, has_given, has_told};
-ghost use Rattle.j39_node.specs.Is.{Is, IsRight, hearing_after, hearing_of, senders_of, status_after, who_for, who_of};
+ghost use Rattle.j39_node.specs.Is.{Is, IsRight, hearing_after, hearing_of, lane_after, lane_of, senders_of, status_after, who_for, who_of};
 
 pub(crate) use due::sooner;
 
@@ -93,7 +93,10 @@ impl Controller {
             return Ok(None);
         };
         let hearing = Hearing::new(alloc, setup.broadcasts)?;
-        Ok(Some(Controller::begun(own, sessions, transfers, hearing)))
+        let lane = Lane::new(alloc, setup.transfers)?;
+        Ok(Some(Controller::begun(
+            own, sessions, transfers, hearing, lane,
+        )))
     }
 
     /// The same, built in a box of its own: so it takes little stack.
@@ -114,7 +117,11 @@ impl Controller {
             return Ok(None);
         };
         let hearing = Hearing::new(alloc, setup.broadcasts)?;
-        match Box::new(alloc, Controller::begun(own, sessions, transfers, hearing)) {
+        let lane = Lane::new(alloc, setup.transfers)?;
+        match Box::new(
+            alloc,
+            Controller::begun(own, sessions, transfers, hearing, lane),
+        ) {
             Ok(controller) => Ok(Some(controller)),
             Err(_) => Err(AllocError),
         }
@@ -127,11 +134,13 @@ impl Controller {
         sessions: Sessions,
         transfers: j39_transfers::Transfers,
         hearing: Hearing,
+        lane: Lane,
     ) -> Controller
         requires sessions { sessions_of sessions ≡ none_of own.address own.window own.sessions }
         requires transfers { transfers_of transfers ≡ no_transfers own.address own.transfers }
         requires hearing { hearing_of hearing ≡ hearing_after (who_of nothing own) [] }
         requires senders { senders_of hearing ≡ [] }
+        requires lane { lane_of (who_of nothing own) lane ≡ lane_after (who_of nothing own) [] }
         ensures { Is (who_of nothing own) [] result }
     {
         Controller {
@@ -144,7 +153,7 @@ impl Controller {
             inbox: Inbox::new(),
             desk: Desk::new(),
             holders: Claims::new(),
-            lane: Lane::new(),
+            lane,
             incoming: Incoming::new(sessions),
             transfers: Transfers::new(transfers),
             hearing,
@@ -240,7 +249,8 @@ impl Controller {
         self.next_token = 0;
         self.inbox.missed = 0;
         self.desk.due.clear();
-        self.lane = Lane::new();
+        self.lane.count = 0;
+        self.lane.next_token = 0;
         self.hearing.begin_anew();
         true
     }

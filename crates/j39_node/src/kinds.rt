@@ -34,8 +34,8 @@ pub enum Refused {
     /// of a request to all.
     BadValue,
     /// Sixteen messages are accepted and not told to have ended; a broadcast is, or a transfer, or a request; sixteen
-    /// acknowledgments are due. Where none is: a transfer of this group to this address rests since less than 4 seconds, or sixteen
-    /// others do.
+    /// acknowledgments are due. Where none is: there are no boxes for transfers, which a broadcast wants too; or a transfer of this group
+    /// to this address rests since less than 4 seconds, or sixteen others do.
     Full,
 }
 

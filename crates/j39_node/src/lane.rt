@@ -1,49 +1,46 @@
 //! Messages that are broadcast in packets (J1939-21, 5.10.3.5 and 5.12.3).
-ghost use Rattle.std.specs.Prelude.{◌≡◌, ◌≤◌, ◌<◌, ◌↔◌, ◌||◌, ◌==◌, ℕ, List, length, nat_eq, None, Some, IsSome, IfSome, IsSomeAnd, true, false, if◌then◌else◌, []};
+ghost use Rattle.std.specs.Prelude.{◌≡◌, ◌≤◌, ◌||◌, ◌==◌, ◌+◌, ℕ, List, length, min, nat_eq, None, Some, IsSome, IfOk, IfSome, IsSomeAnd, true, if◌then◌else◌};
 ghost use Rattle.std.specs.Option.{option_map};
 ghost use Rattle.j39_frame.specs.Identifier.{id_raw};
 ghost use Rattle.j39_frame.specs.Pgn.{pgn_raw};
 ghost use Rattle.j39_frame.specs.Stamp.{stamp_micros};
 ghost use Rattle.j39_frame.specs.Network.{transport_control_group, transport_data_group};
 ghost use Rattle.j39_transport.specs.Message.{packets_of};
-ghost use Rattle.j39_node.specs.History.{Who, broadcast_from, can_broadcast, carried, is_left, is_open, nothing};
+ghost use Rattle.j39_node.specs.History.{Who, broadcast_from, can_broadcast, carried, is_left, nothing};
 
 use crate::Ending;
 use crate::hold::SLACK;
-use crate::outgoing::is_sendable;
 use crate::own::{Own, TRANSPORT_CONTROL, TRANSPORT_DATA};
 use arrayvec::ArrayVec;
 use j39_frame::{Frame, GLOBAL_ADDRESS, Id, Pgn, Stamp};
-use j39_transport::{Cut, LONGEST, SHORTEST};
+use j39_transport::{Cut, LONGEST};
+use std::alloc::{AllocError, Global};
 
 /// A broadcast that is not told to have ended.
 #[derive(Drop)]
 pub(crate) struct Open {
     pub(crate) token: u64,
     pub(crate) group: Pgn,
-    pub(crate) bytes: ArrayVec<u8, LONGEST>,
-    pub ghost least: { 9 ≤ length bytes.items },
-    pub ghost most: { length bytes.items ≤ 1785 },
+    pub(crate) bytes: Box<ArrayVec<u8, LONGEST>>,
+    pub ghost least: { 9 ≤ length bytes.value.items },
+    pub ghost most: { length bytes.value.items ≤ 1785 },
 }
 
 impl Open {
     ghost use Rattle.j39_node.specs.Is.{opened, packet_by, stamped, who_of};
 
-    /// A message that is to be broadcast; `None` where it can't be.
-    pub(crate) fn new(token: u64, group: Pgn, bytes: &[u8]) -> Option<Open>
-        ensures known { IsSome result ↔ (can_broadcast (pgn_raw group) bytes.now ≡ true) }
-        ensures value { IfSome result (λ x. (w : Who) → opened w x ≡ (token, broadcast_from w (pgn_raw group) bytes.now)) }
+    /// A message that is to be broadcast, in a box.
+    fn new(token: u64, group: Pgn, bytes: &[u8], mut kept: Box<ArrayVec<u8, LONGEST>>) -> Open
+        requires { can_broadcast (pgn_raw group) bytes.now ≡ true }
+        ensures { (w : Who) → opened w result ≡ (token, broadcast_from w (pgn_raw group) bytes.now) }
     {
-        if !(is_sendable(group) && (bytes.len() >= SHORTEST && bytes.len() <= LONGEST)) {
-            return None;
-        }
-        let mut kept = ArrayVec::new();
-        kept.try_extend_from_slice(bytes).ok()?;
-        Some(Open {
+        kept.clear();
+        let _fits = kept.try_extend_from_slice(bytes);
+        Open {
             token,
             group,
             bytes: kept,
-        })
+        }
     }
 
     /// How many packets it takes.
@@ -70,23 +67,32 @@ impl Open {
 #[derive(Drop)]
 pub(crate) struct Lane {
     pub(crate) current: Option<Open>,
+    /// The box for the next, while none is open.
+    pub(crate) free: Option<Box<ArrayVec<u8, LONGEST>>>,
     /// How many of its frames were taken.
     pub(crate) count: u16,
     pub(crate) next_token: u64,
 }
 
 impl Lane {
-    ghost use Rattle.j39_node.specs.Is.{broadcast_end, lane_of, opened, packet_by, stamped, who_of};
+    ghost use Rattle.j39_node.specs.Is.{broadcast_end, how_many, lane_of, opened, packet_by, stamped, who_of};
 
-    /// No broadcast was accepted.
-    pub(crate) fn new() -> Lane
-        ensures { result ≡ record { current = None; count = 0; next_token = 0 } }
+    /// No broadcast was accepted. It takes memory for one, where there is any for transfers.
+    #[inline(never)]
+    pub(crate) fn new(alloc: Global, transfers: u8) -> Result<Lane, AllocError>
+        ensures { IfOk result (λ l. (w : Who) → lane_of w l ≡ record { current = None; count = 0; next_token = 0; boxes = min 1 transfers }) }
     {
-        Lane {
+        let free = if transfers == 0 {
+            None
+        } else {
+            Some(Box::new(alloc, ArrayVec::new())?)
+        };
+        Ok(Lane {
             current: None,
+            free,
             count: 0,
             next_token: 0,
-        }
+        })
     }
 
     /// The next frame of the open broadcast, once it is due.
@@ -119,13 +125,32 @@ impl Lane {
         }
     }
 
-    /// Whether no broadcast can be accepted.
-    pub(crate) fn is_busy(&self) -> bool
-        ensures room { result ≡ false → self.now.next_token < 18446744073709551615 }
-        ensures value { (w : Who) → result
-            ≡ (is_open (lane_of w self.now).current || nat_eq self.now.next_token 18446744073709551615) }
+    /// Opens a broadcast, and answers its token; `None` where no box is free, or no token is left.
+    pub(crate) fn open(&mut self, group: Pgn, bytes: &[u8]) -> Option<u64>
+        requires { can_broadcast (pgn_raw group) bytes.now ≡ true }
+        ensures known { result ≡ (if nat_eq (how_many self.old.free) 0 || nat_eq self.old.next_token 18446744073709551615 then None else Some self.old.next_token) }
+        ensures opened { IfSome result (λ token. (w : Who) → lane_of w self.new ≡ record
+            { current = Some (token, broadcast_from w (pgn_raw group) bytes.now); count = 0; next_token = token + 1; boxes = 1 }) }
+        ensures stays { result ≡ None → self.new ≡ self.old }
     {
-        self.current.is_some() || self.next_token == u64::MAX
+        if self.next_token == u64::MAX {
+            return None;
+        }
+        let kept = self.free.take()?;
+        let token = self.next_token;
+        self.current = Some(Open::new(token, group, bytes, kept));
+        self.count = 0;
+        self.next_token += 1;
+        Some(token)
+    }
+
+    /// Closes the broadcast that is open: its box is free for the next.
+    pub(crate) fn close(&mut self)
+        ensures { IsSome self.old.current → (w : Who) → lane_of w self.new ≡ record (lane_of w self.old) { current = None; boxes = 1 } }
+    {
+        if let Some(broadcast) = self.current.take() {
+            self.free = Some(broadcast.bytes);
+        }
     }
 
     /// How the open broadcast ended.

@@ -314,8 +314,8 @@ pub fn acknowledgments()
         → Is w (At now (Acknowledge r a (Ok tt)) ∷ H) c → IsTrue (holds w H now) × (r.destination ≡ w.address) }
 {}
 
-/// What `broadcast` answers: `NoAddress` where no address is held, `BadValue` where the message can't be broadcast, `Full` where one
-/// is accepted and not told (or as many as there are tokens were accepted), and else the next token.
+/// What `broadcast` answers: `NoAddress` where no address is held, `BadValue` where the message can't be broadcast, `Full` where there
+/// are no boxes for transfers, one is accepted and not told (or as many as there are tokens were accepted), and else the next token.
 pub fn broadcast_means()
     ensures no_address { (w : Who) (H : List Call) (c : Controller) (now group : ℕ) (bytes : List ℕ) (answer : Result ℕ Refused)
         → Is w (At now (Broadcast group bytes answer) ∷ H) c → (answer ≡ Err refused.NoAddress ↔ (IsTrue (holds w H now) → ⊥)) }
@@ -326,9 +326,9 @@ pub fn broadcast_means()
         → Is w (At now (Broadcast group bytes answer) ∷ H) c
         → (answer ≡ Err refused.Full
         ↔ (IsTrue (holds w H now) × IsTrue (can_broadcast group bytes)
-        × ((length (broadcasts w H) ≡ length (told_broadcasts H) + 1) ⊎ (length (broadcasts w H) ≡ 18446744073709551615)))) }
+        × ((w.transfers ≡ 0) ⊎ ((length (broadcasts w H) ≡ length (told_broadcasts H) + 1) ⊎ (length (broadcasts w H) ≡ 18446744073709551615))))) }
     ensures accepts { (w : Who) (H : List Call) (c : Controller) (now group : ℕ) (bytes : List ℕ) (answer : Result ℕ Refused)
-        → Is w (At now (Broadcast group bytes answer) ∷ H) c → IsTrue (holds w H now) → IsTrue (can_broadcast group bytes)
+        → Is w (At now (Broadcast group bytes answer) ∷ H) c → IsTrue (holds w H now) → IsTrue (can_broadcast group bytes) → 1 ≤ w.transfers
         → length (broadcasts w H) ≡ length (told_broadcasts H) → length (broadcasts w H) < 18446744073709551615
         → answer ≡ Ok (length (broadcasts w H)) }
     ensures token { (w : Who) (H : List Call) (c : Controller) (now group k : ℕ) (bytes : List ℕ)

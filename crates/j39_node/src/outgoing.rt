@@ -6,7 +6,7 @@ ghost use Rattle.j39_frame.specs.Pgn.{pgn_raw};
 ghost use Rattle.j39_frame.specs.Stamp.{stamp_micros};
 ghost use Rattle.j39_node.specs.declared.kinds.Ending.TheVariants.{Done, Withdrawn};
 ghost use Rattle.j39_node.specs.Reception.{asked_whom};
-ghost use Rattle.j39_node.specs.History.{blank, is_blank, past, can_send, is_sendable, message_from, is_directed, nothing, is_alike, is_one, latest};
+ghost use Rattle.j39_node.specs.History.{blank, can_broadcast, is_blank, past, can_send, is_sendable, message_from, is_directed, nothing, is_alike, is_one, latest};
 ghost use Rattle.j39_node.specs.Transfers.{can_transfer};
 ghost use Rattle.j39_node.specs.Is.{who_of, may_go, place_of, posted, stamped, Renews};
 
@@ -232,9 +232,15 @@ pub(crate) fn can_transfer(own: &Own, priority: u8, group: Pgn, to: u8, bytes: &
     ensures { result ≡ can_transfer (who_of nothing own.now) priority (pgn_raw group) to bytes.now }
 {
     priority < 8
-        && is_sendable(group)
-        && (SHORTEST <= bytes.len() && bytes.len() <= LONGEST)
+        && can_broadcast(group, bytes)
         && (to < NULL_ADDRESS && !(to == own.address))
+}
+
+/// Whether it can be sent in packets to all.
+pub(crate) fn can_broadcast(group: Pgn, bytes: &[u8]) -> bool
+    ensures { result ≡ can_broadcast (pgn_raw group) bytes.now }
+{
+    is_sendable(group) && (SHORTEST <= bytes.len() && bytes.len() <= LONGEST)
 }
 
 /// Whether an identifier can have the group, and the stack itself doesn't speak it.

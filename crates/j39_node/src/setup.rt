@@ -23,7 +23,7 @@ pub struct Setup<'a> {
     /// 1.9 kB. Where none is free, another is refused (abort 2; J1939-21, 5.10.3.4).
     pub sessions: u8,
     /// How many messages it sends in packets to others' addresses at once, one to each, or hasn't told to have ended: each takes a box of
-    /// 1.9 kB.
+    /// 1.9 kB, and a broadcast of its own one of 1.8 kB. With 0 it sends none in packets, to all neither.
     pub transfers: u8,
     /// How many packets it lets a sender send at once (by a CTS; J1939-21, 5.10.3.2); 0 sets no limit. What its driver can't take at
     /// once is lost: 16 is enough for most (own).

@@ -10,8 +10,7 @@ ghost use Rattle.j39_node.specs.Asking.{is_asking};
 ghost use Rattle.j39_node.specs.Is.{asking_of, Is, request_by};
 
 use crate::controller::Controller;
-use crate::lane::Open;
-use crate::outgoing::{Outgoing, can_transfer, latest, past, place_of, renew};
+use crate::outgoing::{Outgoing, can_broadcast, can_transfer, latest, past, place_of, renew};
 use crate::requests::Due;
 use crate::{Answer, Refused, Request, asking};
 use j39_frame::{Pgn, Stamp};
@@ -80,7 +79,7 @@ impl Controller {
 
     /// Hands in a message of 9 to 1,785 bytes, to all: an announcement and packets, at least 50 ms from one frame to the next;
     /// answers its token, 0, 1, 2 and so on, apart from those of `send`. `Full` while one is accepted and not told to have
-    /// ended.
+    /// ended, and where there are no boxes for transfers.
     // Where a caller sends frames too, these need no stack for its bytes.
     #[inline(never)]
     pub fn broadcast(&mut self, now: Stamp, group: Pgn, bytes: &[u8]) -> Result<u64, Refused>
@@ -91,19 +90,15 @@ impl Controller {
         if !self.hold.is_held() {
             return Err(Refused::NoAddress);
         }
-        match Open::new(self.lane.next_token, group, bytes) {
-            Some(broadcast) => {
-                if self.lane.is_busy() {
-                    return Err(Refused::Full);
-                }
-                let token = self.lane.next_token;
-                self.lane.current = Some(broadcast);
-                self.lane.count = 0;
-                self.lane.next_token += 1;
+        if !can_broadcast(group, bytes) {
+            return Err(Refused::BadValue);
+        }
+        match self.lane.open(group, bytes) {
+            Some(token) => {
                 self.hold = self.hold.opens();
                 Ok(token)
             }
-            None => Err(Refused::BadValue),
+            None => Err(Refused::Full),
         }
     }
 

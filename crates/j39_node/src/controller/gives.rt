@@ -43,7 +43,7 @@ impl Controller {
         let is_lost = self.hold.is_lost();
         match self.lane.ended(is_lost) {
             Some(ended) => {
-                self.lane.current = None;
+                self.lane.close();
                 Some(ended)
             }
             None => None,
