@@ -740,8 +740,8 @@ int32_t j1939_controller_move_to(j1939_controller *controller, uint8_t address);
  *  - Up to 8 go in one frame, of a priority 0 (the highest) to 7; a group of PF 240 and above goes to all. J1939_FULL while 16
  *    such, requests too, are accepted and not told by .._take_ended.
  *  - More go in packets, whose frames have priority 7. To all (J1939-21, 5.10.3.5) 50 ms or more from frame to frame, whatever
- *    priority; J1939_FULL while one is accepted and not told, and where the setup has no transfers. To an address (J1939-21, 5.10.3) as that clears them, before those
- *    of a larger priority number, by turns with those of the same; J1939_FULL while one to
+ *    priority; J1939_FULL while one is accepted and not told, and where the setup has no transfers. To an address (J1939-21,
+ *    5.10.3) as that clears them, before those of a larger priority number, by turns with those of the same; J1939_FULL while one to
  *    this address is accepted and not told, or as many are as the setup has transfers; also for 4 s after the end of one of this
  *    group to this address that was not acknowledged, unless it was unsent or refused at once (abort 1, 2), and while twice as many
  *    pairs as transfers wait so.

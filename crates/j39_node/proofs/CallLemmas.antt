@@ -2,8 +2,8 @@
 use Rattle.std.proofs.lemmas.Grind.{common_steps}
 use Rattle.j39_node.proofs.KindLemmas.{Kind, kind, kind_by, kind_is, single}
 use Rattle.j39_node.proofs.SoundLemmas.FrameCase.{claims as claims_first, acknowledges, replies, sends, packs, transfers}
-use Rattle.j39_node.proofs.Common.{made_of, whole, MessageRecord, [], accepted, acknowledged, Address, address_after, after, age, all_replies, all_transfers, ap, AreAnswered, arith, Asked, asked, asked_by, asker_by, askers, asked_whom, asking_of, AskRecord, At, at_in, blank, Bool, Call, called, called_for, calls, can_claim, can_send, claim_address, claim_due, claim_from, claim_goes, claim_of, claimed, Claims, claims, clock, clock_at, comes, cond_some, Controller, counted, delayed, Done, Draft, drop, drop-append-le, drop-map, Due, due, end_of, ended, Ending, ending_of, events, false, first, found_by_frame, FrameRecord, fresh, gives_way, got, handed, has_packets, has_token, Hear, heard_at, hearing_after, hearing_of, held_at, Hold, hold_acknowledged, hold_after, hold_asked, hold_claimed, hold_spoken, hold_went, holder, holder_in, holds, if_heard, IfSome, if◌then◌else◌, Incoming, incoming_after, incoming_of, inl, inr, Is, is_apart, is_asking, is_blank, is_busy, is_claim, is_coming, is_for_program, is_full, is_held, is_left, is_lost, is_open, is_served, is_smaller, is_there, is_turn, IsAnswered, IsOthers, kept, Knows, lane_after, lane_of, latest, le-ltb, leaves, leb-true, led, left_at, length, length-drop, length-map, length-set, less, List, Lost, lost, lt-ltb, ltb-false, ltb-true, made_in_sessions, map, map-append, marks, max, may_claim, may_go, Message, message_from, message_of, min, missed_news, moment, more, Move, nat_eq, nat_le, nat_lt, news_after, next_acknowledgment, next_due, next_frame, next_packet, next_renewed, next_transfer, next_transfer_ended, next_turn, next_withdrawn, None, not, nothing, offered, older, open_ask, Option, option_map, other, Outgoing, owes_claim, packet_by, packets, packets_in, passed, past, pause, paused, place_of, port_after, port_of, posted, reached, Ready, ready_in, refl, refusal_by, Renew, Renews, replies_of, Reply, Request, requests, senders, sessions_after, Single, slice_get, slice_get_past, slice_get_within, slice_set, Some, sooner, source_of, stamp_at, stamped, standing_of, stands, step, subst, suc, sym, TakeEnded, TakeFrame, taken_by, taken_whom, those_over, time_heard, told, told_claims, true, turn_frame, turn_of, turns, unclaimed, unclaims, unheard_news, Untold, View, view, wait, Who, who_of, with_called, with_asker, with_reception, with_refusal, with_request, Withdraw, Withdrawn, yields, ℕ, ◌&&◌, ◌++◌, ◌+◌, ◌-◌, ◌<◌, ◌||◌, ◌∙◌, ◌∷◌, ◌≡◌, ◌≤◌, passed_to, later, carried_by, said, soonest, taken_events, transfer_events, transfers_at, is_over, Running, TransfersRecord, TransferEnding, append-nil, has_some, order, Transfer, Result, Refused, Ok, Err, Full, tried_events, heard_events, is_tried, broadcast_from, TakeTransferEnded}
-use Rattle.j39_node.specs.Boxes.{in_box}
+use Rattle.j39_node.proofs.Common.{made_of, whole, MessageRecord, [], accepted, acknowledged, Address, address_after, after, age, all_replies, all_transfers, ap, AreAnswered, arith, Asked, asked, asked_by, asker_by, askers, asked_whom, asking_of, AskRecord, At, at_in, blank, Bool, Call, called, called_for, calls, can_claim, can_send, claim_address, claim_due, claim_from, claim_goes, claim_of, claimed, Claims, claims, clock, clock_at, comes, cond_some, Controller, counted, delayed, Done, Draft, drop, drop-append-le, drop-map, Due, due, end_of, ended, Ending, ending_of, events, false, first, found_by_frame, FrameRecord, fresh, gives_way, got, handed, has_packets, has_token, Hear, heard_at, hearing_after, hearing_of, held_at, Hold, hold_acknowledged, hold_after, hold_asked, hold_claimed, hold_spoken, hold_went, holder, holder_in, holds, if_heard, IfSome, if◌then◌else◌, Incoming, incoming_after, incoming_of, inl, inr, Is, is_apart, is_asking, is_blank, is_busy, is_claim, is_coming, is_for_program, is_full, is_held, is_left, is_lost, is_open, is_served, is_smaller, is_there, is_turn, IsAnswered, IsOthers, kept, Knows, lane_after, lane_of, latest, le-ltb, leaves, leb-true, led, left_at, length, length-drop, length-map, length-set, less, List, Lost, lost, lt-ltb, ltb-false, ltb-true, made_in_sessions, map, map-append, marks, max, may_claim, may_go, Message, message_from, message_of, min, missed_news, moment, more, Move, nat_eq, nat_le, nat_lt, news_after, next_acknowledgment, next_due, next_frame, next_packet, next_renewed, next_transfer, next_transfer_ended, next_turn, next_withdrawn, None, not, nothing, offered, older, Open, open_ask, opened, Option, option_map, other, Outgoing, owes_claim, packet_by, packets, packets_in, passed, past, pause, paused, place_of, port_after, port_of, posted, reached, Ready, ready_in, refl, refusal_by, Renew, Renews, replies_of, Reply, Request, requests, senders, sessions_after, Single, slice_get, slice_get_past, slice_get_within, slice_set, Some, sooner, source_of, stamp_at, stamped, standing_of, stands, step, subst, suc, sym, TakeEnded, TakeFrame, taken_by, taken_whom, those_over, time_heard, told, told_claims, true, turn_frame, turn_of, turns, unclaimed, unclaims, unheard_news, Untold, View, view, wait, Who, who_of, with_called, with_asker, with_reception, with_refusal, with_request, Withdraw, Withdrawn, yields, ℕ, ◌&&◌, ◌++◌, ◌+◌, ◌-◌, ◌<◌, ◌||◌, ◌∙◌, ◌∷◌, ◌≡◌, ◌≤◌, passed_to, later, carried_by, said, soonest, taken_events, transfer_events, transfers_at, is_over, Running, TransfersRecord, TransferEnding, append-nil, has_some, order, Transfer, Result, Refused, Ok, Err, Full, tried_events, heard_events, is_tried, broadcast_from, TakeTransferEnded}
+use Rattle.j39_node.specs.Boxes.{how_many, in_box}
 use Rattle.j39_node.specs.Is.{leaving}
 use Rattle.j39_node.specs.Reception.{is_waiting}
 use Rattle.j39_node.specs.Transfers.{packet_in}
@@ -285,7 +285,7 @@ pub taken_packet : (w : Who) (H : List Call) (old new : Controller) (now : ℕ) 
     → IsOthers w H now mid
     → turn_of mid.yields (ready_in old mid) ≡ Some Packet
     → Some (stamped f) ≡ option_map (at_now now) (packet_by (lane_of (who_of w.brought old.own) old.lane).current old.lane.count mid.pause)
-    → new ≡ record old { hold = new.hold; lane = new.lane } → new.hold ≡ paused mid → new.lane ≡ record old.lane { count = new.lane.count }
+    → new ≡ record old { hold = new.hold; lane = new.lane } → new.hold ≡ paused mid → lane_of w new.lane ≡ record (lane_of w old.lane) { count = new.lane.count }
     → new.lane.count ≡ suc old.lane.count → Is w (At now (TakeFrame (Some f)) ∷ H) new
 taken_packet w H old new now f mid h o turn m e e0 e1 more =
     go (next_packet w H now) refl (m ∙ ap (option_map (at_now now)) (packet_next w H old now mid.pause h (ap (λ (k : Hold). k.pause) o.passed)))
@@ -297,7 +297,7 @@ taken_packet w H old new now f mid h o turn m e e0 e1 more =
         frames (packs y o.owes o.held (o.none, sym (turn_next w H old now mid h o.passed o.held) ∙ turn) q k) h (ap (λ c. c.holders) e) refl
         (ap (view w) e ∙ λ i. record (h.shown i) {
           hold = (e0 ∙ ap paused o.passed) i;
-          lane = (ap (lane_of w) e1 ∙ λ i. record (h.shown i).lane {
+          lane = (e1 ∙ λ i. record (h.shown i).lane {
             count = (more ∙ (ap (λ (v : View). suc v.lane.count) h.shown ∙ sym (length_one_more (packets H) (message_of f)))) i;
           }) i;
         })
@@ -842,6 +842,10 @@ pub busy_is : (w : Who) (H : List Call) (c : Controller) → Is w H c
 busy_is w H c h =
     free_box w c.lane.current (how_many c.lane.free) w.transfers (nat_eq c.lane.next_token 18446744073709551615) (ap (λ (v : View). v.lane.boxes) h.shown)
     ∙ ap (λ (v : View). nat_eq w.transfers 0 || (is_open v.lane.current || nat_eq v.lane.next_token 18446744073709551615)) h.shown
+
+pub opens_so : (b : Bool) (n k : ℕ) → Some k ≡ (if b then None else Some n) → (b ≡ false) × (k ≡ n)
+opens_so true n k e = absurd (cc)
+opens_so false n k e = (refl, (let z : k ≡ n = cc in z))
 
 -- ---- requests to others
 

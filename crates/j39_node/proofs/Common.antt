@@ -61,7 +61,7 @@ pub use Rattle.j39_node.specs.History.Act.{Acknowledge, Again, Ask, Broadcast, H
 pub use Rattle.j39_node.specs.History.Address.{Claimed, Lost, NotClaimed}
 pub use Rattle.j39_node.specs.History.Call.{At, ReleaseBroadcast, ReleaseTransfer, Renew, TakeAskEnded, TakeBroadcastEnded, TakeEnded, TakeNews, TakeReceived, TakeRequest, TakeTransferEnded, Withdraw}
 pub use Rattle.j39_node.specs.Hold.{anew, can_claim, claims, heard, acknowledged as hold_acknowledged, asked as hold_asked, claimed as hold_claimed, moved as hold_moved, opens as hold_opens, spoken as hold_spoken, went as hold_went, left_at, less, lost, passed, paused, standing_of, stands, unclaims}
-pub use Rattle.j39_node.specs.Is.{IsOthers, led, after, answer_to_acknowledge, answer_to_broadcast, answer_to_send, AreAnswered, ask_record, asked_by, asking_after, asking_of, AskRecord, broadcast_end, claim_due, claim_goes, control_of, counted, end_of, ending_of, gives_way, hearing_after, hearing_of, HearingRecord, hears_with, hold_after, how_many, incoming_after, incoming_of, IncomingRecord, Is, IsFresh, is_apart, is_overdue, is_there, is_turn, IsAnswered, lane_after, lane_of, LaneRecord, long_by, may_go, news_after, news_of, next_acknowledgment, next_broadcast_ended, next_ended, next_frame, next_long, next_news, next_other, next_packet, next_renewed, next_turn, next_withdrawn, offered, opened, other, packet_by, passed_to, place_of, port_after, port_of, PortRecord, posted, ready, ready_in, received_by, sender_by, asker_by, refusal_by, Renews, request_by, silence, stamped, status_after, status_of, ticks, turn_frame, turn_of, View, view, who_of, with_called, with_reception, takes_in, gone_by, found as found_by_frame}
+pub use Rattle.j39_node.specs.Is.{IsOthers, led, after, answer_to_acknowledge, answer_to_broadcast, answer_to_send, AreAnswered, ask_record, asked_by, asking_after, asking_of, AskRecord, broadcast_end, claim_due, claim_goes, control_of, counted, end_of, ending_of, gives_way, hearing_after, hearing_of, HearingRecord, hears_with, hold_after, incoming_after, incoming_of, IncomingRecord, Is, IsFresh, is_apart, is_overdue, is_there, is_turn, IsAnswered, lane_after, lane_of, LaneRecord, long_by, may_go, news_after, news_of, next_acknowledgment, next_broadcast_ended, next_ended, next_frame, next_long, next_news, next_other, next_packet, next_renewed, next_turn, next_withdrawn, offered, opened, other, packet_by, passed_to, place_of, port_after, port_of, PortRecord, posted, ready, ready_in, received_by, sender_by, asker_by, refusal_by, Renews, request_by, silence, stamped, status_after, status_of, ticks, turn_frame, turn_of, View, view, who_of, with_called, with_reception, takes_in, gone_by, found as found_by_frame}
 pub use Rattle.j39_node.specs.Moves.{abort_move, Aborts, Acknowledges, clears, clears_by, Happened, is_move_to, IsAmong, IsMove, moves, packet_move, Replaces, takes_clear}
 pub use Rattle.j39_node.specs.Moving.{has_given, has_told, HasMoved, IsSettled, moved}
 pub use Rattle.j39_node.specs.Packets.{Bring, is_of_sender, IsPacket, Spares}

@@ -1,5 +1,5 @@
 -- The laws of broadcasts.
-use Rattle.j39_node.proofs.Common.{[], ◌++◌, ◌+◌, ◌-◌, ◌<◌, ◌↔◌, ◌∙◌, ◌∷◌, ◌≡◌, ◌≤◌, ◌⊎◌, accepted, acknowledged, address_after, all_frames, ap, AreAnswered, arith, At, Bool, Broadcast, broadcast_end, broadcasts, Call, Controller, Done, due, Ending, eq-eqb, eqb-true, false, first_frames, frame_of, FrameRecord, has_packets, holds, inl, inr, Is, is_acknowledgment, is_busy, is_claim, is_held, is_left, is_lost, is_open, is_overdue, is_packet, IsTrue, length, List, long_by, Message, message_of, MessageRecord, moment, Move, nat_le, nat_lt, next_acknowledgment, next_frame, next_long, next_packet, next_transfer, None, Ok, open_broadcast, Option, packet_by, packets, packets_of, PacketSince, passed_in, pause, reached, ready, refl, Reply, Single, slice_get, Some, step, suc, sym, TakeBroadcastEnded, TakeFrame, told_broadcasts, true, Who, Withdrawn, yields, zero, ℕ, not_both, or_parts, or_cases, false_from_ne_true}
+use Rattle.j39_node.proofs.Common.{[], ◌++◌, ◌+◌, ◌-◌, ◌<◌, ◌↔◌, ◌∙◌, ◌∷◌, ◌≡◌, ◌≤◌, ◌⊎◌, accepted, acknowledged, address_after, all_frames, ap, AreAnswered, arith, At, Bool, Broadcast, broadcast_end, broadcasts, Call, Controller, Done, due, Ending, eq-eqb, eqb-true, false, first_frames, frame_of, FrameRecord, has_packets, holds, inl, inr, Is, is_acknowledgment, is_busy, is_claim, is_held, is_left, is_lost, is_open, is_overdue, is_packet, IsTrue, length, List, long_by, Message, message_of, MessageRecord, moment, Move, nat_le, nat_lt, next_acknowledgment, next_frame, next_long, next_packet, next_transfer, None, Ok, open_broadcast, Option, packet_by, packets, packets_of, PacketSince, passed_in, pause, reached, ready, refl, Reply, Single, slice_get, Some, step, suc, sym, TakeBroadcastEnded, TakeFrame, told_broadcasts, true, Who, Withdrawn, yields, zero, ℕ, not_both, or_parts, or_cases, false_from_ne_true, nat_eq}
 use Rattle.j39_node.specs.declared.turn.Turn.TheVariants.{Packet}
 use Rattle.j39_node.proofs.QueueLemmas.{length_one_more, all_at}
 use Rattle.j39_node.proofs.SoundLemmas.{address_is, packet_taken, IsTurn, none_next, turned, FrameCase, frame_case, packet_case, sound, claim_taken, claim_single, IsDue, due_taken, no_packet, pause_is, no_packet}

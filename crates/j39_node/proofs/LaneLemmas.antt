@@ -1,5 +1,5 @@
 -- What every answered history says of broadcasts.
-use Rattle.j39_node.proofs.Common.{[], ◌++◌, ◌-◌, ◌<◌, ◌∙◌, ◌∷◌, ◌≡◌, ◌≤◌, address_after, answer_to_broadcast, ap, AreAnswered, arith, At, Bool, Broadcast, broadcast_end, broadcast_from, broadcasts, Call, Done, Ending, false, first_frames, frame_of, FrameRecord, is_lost, is_open, is_packet, length, List, ltb-true, Message, MessageRecord, nat_lt, None, Ok, open_broadcast, Option, packets, packets_of, pause, refl, slice_get, Some, step, subst, suc, sym, TakeBroadcastEnded, TakeFrame, told_broadcasts, true, Who, Withdrawn, ℕ, ltb-false, or_parts}
+use Rattle.j39_node.proofs.Common.{[], ◌++◌, ◌-◌, ◌<◌, ◌∙◌, ◌∷◌, ◌≡◌, ◌≤◌, address_after, answer_to_broadcast, ap, AreAnswered, arith, At, Bool, Broadcast, broadcast_end, broadcast_from, broadcasts, Call, Done, Ending, false, first_frames, frame_of, FrameRecord, is_lost, is_open, is_packet, length, List, ltb-true, Message, MessageRecord, nat_lt, None, Ok, open_broadcast, Option, packets, packets_of, pause, refl, slice_get, Some, step, subst, suc, sym, TakeBroadcastEnded, TakeFrame, told_broadcasts, true, Who, Withdrawn, ℕ, ltb-false, or_parts, nat_eq}
 use Rattle.j39_node.proofs.QueueLemmas.{length_one_more, get_last}
 use Rattle.j39_node.proofs.SoundLemmas.{FrameCase, PacketCase, frame_case, packet_case, packet_taken, packets_is}
 use Rattle.j39_node.proofs.SoundLemmas.FrameCase.{packs}
@@ -98,7 +98,7 @@ lane_opens : (w : Who) (H : List Call) (now group k : ℕ) (bytes : List ℕ) �
 lane_opens w H now group k bytes e h =
     let x = broadcast_accepts w H now group k bytes e in
     let n = x.3 in
-    let t = closed w (length (told_broadcasts H)) (broadcasts w H) (packets H) (open_broadcast w H) h (or_parts _ _ x.2).0 in
+    let t = closed w (length (told_broadcasts H)) (broadcasts w H) (packets H) (open_broadcast w H) h (or_parts _ _ (or_parts (nat_eq w.transfers 0) _ x.2).1).0 in
     record {
       token = n ∙ sym t;
       last = ap (slice_get (broadcasts w H ++ broadcast_from w group bytes ∷ [])) n ∙ get_last (broadcasts w H) (broadcast_from w group bytes);

@@ -1,5 +1,5 @@
 -- When a controller may move, by what it has; and what it is then.
-use Rattle.j39_node.proofs.Common.{[], accepted, and_parts, ap, arith, asked_by, asker_by, AskEnding, asking_of, Bool, Call, Claim, Claims, Controller, eqb-true, false, got, handed, has_given, has_told, HasMoved, hearing_of, HearingRecord, hold_after, hold_moved, holder_in, incoming_of, IncomingRecord, Is, IsHolderAfter, IsLeastFree, IsSettled, kept, Knows, lane_of, later, length, length-map, List, loses, map, message_by, moment, moved, name_raw, nat_eq, news_of, None, none_of, NoneFree, not, Option, option_map, port_of, PortRecord, posted, Question, received_by, refl, refusal_by, request_by, requests, sender_by, subst, sym, told, told_claims, true, Untold, View, Who, ℕ, ◌&&◌, ◌+◌, ◌-◌, ◌<◌, ◌||◌, ◌∙◌, ◌∷◌, ◌≡◌, ◌≢◌, ◌≤◌, age, At, min, ltb-true, nat_lt, transfers_at}
+use Rattle.j39_node.proofs.Common.{[], accepted, and_parts, ap, arith, asked_by, asker_by, AskEnding, asking_of, Bool, Call, Claim, Claims, Controller, eqb-true, false, got, handed, has_given, has_told, HasMoved, hearing_of, HearingRecord, hold_after, hold_moved, holder_in, incoming_of, IncomingRecord, Is, IsHolderAfter, IsLeastFree, IsSettled, kept, Knows, lane_of, LaneRecord, later, length, length-map, List, loses, map, message_by, moment, moved, name_raw, nat_eq, news_of, None, none_of, NoneFree, not, Option, option_map, port_of, PortRecord, posted, Question, received_by, refl, refusal_by, request_by, requests, sender_by, subst, sym, told, told_claims, true, Untold, View, Who, ℕ, ◌&&◌, ◌+◌, ◌-◌, ◌<◌, ◌||◌, ◌∙◌, ◌∷◌, ◌≡◌, ◌≢◌, ◌≤◌, age, opened, At, min, ltb-true, nat_lt, transfers_at}
 use Rattle.j39_transfers.specs.Transfers.{can_move, moves}
 use Rattle.j39_node.specs.Boxes.{in_box}
 use Rattle.std.specs.Option.{is_some}
@@ -118,7 +118,7 @@ pub begins_anew : (w : Who) (H : List Call) (old new : Controller) (a : ℕ) →
     → new.hold ≡ hold_moved old.hold
     → new.outgoing ≡ old.outgoing → new.taken ≡ 0 → new.next_token ≡ 0 → new.asking ≡ old.asking → new.inbox.unread ≡ old.inbox.unread → new.inbox.missed ≡ 0
     → new.desk.waiting ≡ old.desk.waiting → new.desk.due.items ≡ [] → new.news ≡ old.news → new.holders ≡ old.holders
-    → new.lane ≡ record old.lane { count = 0; next_token = 0 }
+    → lane_of (moved w H a) new.lane ≡ record (lane_of (moved w H a) old.lane) { count = 0; next_token = 0 }
     → incoming_of new.incoming ≡ record { moment = old.hold.moment; clock = later 0 old.hold.moment; called = record { left = 0; whose = 0 }; reception = record (loses (incoming_of old.incoming).reception) { own = a } }
     → port_of new.transfers ≡ record { state = moves a (port_of old.transfers).state; next_token = 0 } → can_move a (port_of old.transfers).state ≡ true → ((hearing_of old.hearing).listening.waits ≡ [] → hearing_of new.hearing ≡ record { listening = record { current = []; waits = [] }; boxes = (hearing_of old.hearing).boxes; missed = 0 }) → new.hearing.whole ≡ old.hearing.whole
     → HasMoved w H a new
@@ -147,8 +147,8 @@ begins_anew w H old new a h e o1 o2 o5 o3 o4 o6 o7 o9 o8 q1 q2 q3 q4 q5 q6 q7 q8
         acknowledgments = map (refusal_by (moved w H a)) (q9 i);
         news = (q10 ∙ none_untold old.news g4.1) i;
         missed = q7 i;
-        lane = (ap (lane_of (moved w H a)) q12
-            ∙ (λ i. (let l : LaneRecord = record { current = none_is _ _ t3.0 i; count = 0; next_token = 0; boxes = (h.shown i).lane.boxes } in l))) i;
+        lane = (q12
+            ∙ (λ i. (let l : LaneRecord = record { current = none_is (opened (moved w H a)) old.lane.current t3.0 i; count = 0; next_token = 0; boxes = (h.shown i).lane.boxes } in l))) i;
         incoming = (q15
             ∙ ((λ i. (let m = (h.shown i).hold.moment in let x : IncomingRecord = record { moment = m; clock = later 0 m; called = record { left = 0; whose = 0 }; reception = none_there old.incoming.sessions a w.window w.sessions a g3.0 most boxes i } in x))
             ∙ (λ i. (let x : IncomingRecord = record { moment = moment H; clock = later 0 (none_less (moment H) i); called = record { left = zero_less (moment H - 0) i; whose = 0 }; reception = none_of a w.window w.sessions } in x)))) i;

@@ -1,7 +1,7 @@
 -- What a box of the code holds.
 use Rattle.std.specs.declared.boxed.Box.{Box}
 use Rattle.std.specs.Global.{Global}
-use Rattle.j39_node.specs.Common.{name_raw, option_map, pgn_raw, stamp_micros}
+use Rattle.j39_node.specs.Common.{name_raw, None, Option, option_map, pgn_raw, Some, stamp_micros, ℕ}
 use Rattle.j39_node.specs.Hearing.{OpenBroadcast}
 use Rattle.j39_node.specs.declared.hearing.Assembly.{Assembly as Bytes}
 
@@ -17,6 +17,11 @@ broadcast_by x = record {
   since = stamp_micros x.since;
   name = option_map name_raw x.name;
 }
+
+-- one, or none
+abbrev pub how_many : {T : Type 0} → Option T → ℕ
+how_many None = 0
+how_many (Some x) = 1
 
 abbrev pub in_box : Box Bytes Global → OpenBroadcast
 in_box b = broadcast_by b.value

@@ -42,7 +42,7 @@ use Rattle.j39_node.specs.declared.asking.Asking.{Asking}
 use Rattle.j39_node.specs.declared.asking.Open as asking
 use Rattle.j39_node.specs.declared.incoming.Incoming.{Incoming}
 use Rattle.j39_node.specs.Hearing.{broadcast_senders, Listening, hears_in, is_unheard_in, listening, message_by, staying, those_over, unheard, unheard_news, waiting}
-use Rattle.j39_node.specs.Boxes.{in_box}
+use Rattle.j39_node.specs.Boxes.{how_many, in_box}
 use Rattle.j39_node.specs.declared.hearing.Hearing.{Hearing}
 use Rattle.j39_node.specs.Transfers.{age, answer_to_transfer, carried_by, clock, next_transfer, next_transfer_ended, transfers as all_transfers, transfers_at}
 
@@ -374,10 +374,6 @@ pub record LaneRecord : Type 0 where
 
 abbrev pub opened : Who → Open → ℕ × MessageRecord
 opened w x = (x.token, broadcast_from w (pgn_raw x.group) x.bytes.value.items)
-
-abbrev pub how_many : {T : Type 0} → Option T → ℕ
-how_many None = 0
-how_many (Some x) = 1
 
 abbrev pub lane_of : Who → Lane → LaneRecord
 lane_of w l = record {

@@ -94,9 +94,7 @@ impl Controller {
         };
         let hearing = Hearing::new(alloc, setup.broadcasts)?;
         let lane = Lane::new(alloc, setup.transfers)?;
-        Ok(Some(Controller::begun(
-            own, sessions, transfers, hearing, lane,
-        )))
+        Ok(Some(Controller::begun(own, sessions, transfers, hearing, lane)))
     }
 
     /// The same, built in a box of its own: so it takes little stack.

@@ -1,5 +1,5 @@
 //! Messages that are broadcast in packets (J1939-21, 5.10.3.5 and 5.12.3).
-ghost use Rattle.std.specs.Prelude.{◌≡◌, ◌≤◌, ◌||◌, ◌==◌, ◌+◌, ℕ, List, length, min, nat_eq, None, Some, IsSome, IfOk, IfSome, IsSomeAnd, true, if◌then◌else◌};
+ghost use Rattle.std.specs.Prelude.{◌≡◌, ◌≤◌, ◌||◌, ◌==◌, ◌+◌, ℕ, List, length, min, nat_eq, None, Some, IfOk, IfSome, IsSomeAnd, true, if◌then◌else◌};
 ghost use Rattle.std.specs.Option.{option_map};
 ghost use Rattle.j39_frame.specs.Identifier.{id_raw};
 ghost use Rattle.j39_frame.specs.Pgn.{pgn_raw};
@@ -7,6 +7,7 @@ ghost use Rattle.j39_frame.specs.Stamp.{stamp_micros};
 ghost use Rattle.j39_frame.specs.Network.{transport_control_group, transport_data_group};
 ghost use Rattle.j39_transport.specs.Message.{packets_of};
 ghost use Rattle.j39_node.specs.History.{Who, broadcast_from, can_broadcast, carried, is_left, nothing};
+ghost use Rattle.j39_node.specs.Boxes.{how_many};
 
 use crate::Ending;
 use crate::hold::SLACK;
@@ -72,10 +73,11 @@ pub(crate) struct Lane {
     /// How many of its frames were taken.
     pub(crate) count: u16,
     pub(crate) next_token: u64,
+    pub ghost one: { how_many current + how_many free ≤ 1 },
 }
 
 impl Lane {
-    ghost use Rattle.j39_node.specs.Is.{broadcast_end, how_many, lane_of, opened, packet_by, stamped, who_of};
+    ghost use Rattle.j39_node.specs.Is.{broadcast_end, lane_of, opened, packet_by, stamped, who_of};
 
     /// No broadcast was accepted. It takes memory for one, where there is any for transfers.
     #[inline(never)]
@@ -130,7 +132,7 @@ impl Lane {
         requires { can_broadcast (pgn_raw group) bytes.now ≡ true }
         ensures known { result ≡ (if nat_eq (how_many self.old.free) 0 || nat_eq self.old.next_token 18446744073709551615 then None else Some self.old.next_token) }
         ensures opened { IfSome result (λ token. (w : Who) → lane_of w self.new ≡ record
-            { current = Some (token, broadcast_from w (pgn_raw group) bytes.now); count = 0; next_token = token + 1; boxes = 1 }) }
+            { current = Some (token, broadcast_from w (pgn_raw group) bytes.now); count = 0; next_token = token + 1; boxes = (lane_of w self.old).boxes }) }
         ensures stays { result ≡ None → self.new ≡ self.old }
     {
         if self.next_token == u64::MAX {
@@ -146,7 +148,7 @@ impl Lane {
 
     /// Closes the broadcast that is open: its box is free for the next.
     pub(crate) fn close(&mut self)
-        ensures { IsSome self.old.current → (w : Who) → lane_of w self.new ≡ record (lane_of w self.old) { current = None; boxes = 1 } }
+        ensures { (w : Who) → lane_of w self.new ≡ record (lane_of w self.old) { current = None } }
     {
         if let Some(broadcast) = self.current.take() {
             self.free = Some(broadcast.bytes);

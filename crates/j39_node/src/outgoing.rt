@@ -231,9 +231,7 @@ fn can_send(own: &Own, priority: u8, group: Pgn, to: u8, bytes: &[u8]) -> bool
 pub(crate) fn can_transfer(own: &Own, priority: u8, group: Pgn, to: u8, bytes: &[u8]) -> bool
     ensures { result ≡ can_transfer (who_of nothing own.now) priority (pgn_raw group) to bytes.now }
 {
-    priority < 8
-        && can_broadcast(group, bytes)
-        && (to < NULL_ADDRESS && !(to == own.address))
+    priority < 8 && can_broadcast(group, bytes) && (to < NULL_ADDRESS && !(to == own.address))
 }
 
 /// Whether it can be sent in packets to all.

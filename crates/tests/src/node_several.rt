@@ -219,3 +219,21 @@ fn node_sends_to_as_many_at_once_as_it_has_boxes(rt: HostRuntime) -> Result<(), 
     assert!(rt; goes_to(&mut node, now).is_none());
     Ok(())
 }
+
+#[test]
+fn node_without_boxes_sends_single_frames(rt: HostRuntime) -> Result<(), Fail> {
+    let wanted = Setup {
+        broadcasts: 0,
+        sessions: 0,
+        transfers: 0,
+        ..setup(2, 128, &[])
+    };
+    let mut node = made(rt.alloc(), &wanted)?;
+    let _claim = node.take_frame(Stamp::new(0).ok_or("moment")?);
+    let now = Stamp::new(250_000).ok_or("moment")?;
+    let group = Pgn::new(65_226).ok_or("group")?;
+    assert_eq!(rt; node.broadcast(now, group, &[1; 9]), Err(Refused::Full));
+    assert_eq!(rt; node.send(now, 6, group, 255, &[1; 8]), Ok(0));
+    assert!(rt; node.take_frame(now).is_some());
+    Ok(())
+}

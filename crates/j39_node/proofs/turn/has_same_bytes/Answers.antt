@@ -1,4 +1,4 @@
-use Rattle.j39_node.proofs.Common.{bytes_eq-Decides, length, refl, sym, ◌∙◌, ◌≡◌, ◌≤◌}
+use Rattle.j39_node.proofs.Common.{bytes_eq-Decides, length, sym, ◌∙◌, ◌≤◌}
 use Rattle.std.proofs.Common.{rules, take_all}
 use Rattle.j39_node.proofs.turn.has_same_bytes.Goals as goal
 

@@ -7,6 +7,11 @@ use Rattle.j39_node.proofs.ReceptionLemmas.{table_is}
 use Rattle.j39_node.proofs.controller.Controller.transfer.Goals as goal
 use Rattle.j39_node.proofs.AnswerCases.{answer_is}
 
+pub returns-then-not-is_held : goal.returns-then-not-is_held
+returns-then-not-is_held c = λ w H h.
+    let p = led_so w H (stamp_micros c.args.now) c.args.self.now c.passed-self.result c.is_held.result h c.passed-self.ensures c.is_held.ensures in
+    follows h refl (sym (answer_is (length (all_transfers w H)) (sym p.1 ∙ c.if-not-is_held.true) refl refl)) refl (λ i. record (h.shown i) { hold = p.0 i })
+
 pub returns : goal.returns
 returns c = λ w H h.
     let now = stamp_micros c.args.now in
