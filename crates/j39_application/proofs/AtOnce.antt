@@ -4,16 +4,17 @@ use Rattle.std.proofs.lemmas.Bool.{false_from_ne_true}
 use Rattle.std.proofs.lemmas.Option.{none-some}
 use Rattle.std.specs.Option.{option_map}
 use Rattle.j39_frame.specs.Frame.{FrameRecord}
-use Rattle.j39_node.proofs.Common.{all_replies, claim_due, claim_goes, gives_way, has_packets, lt-ltb, next_acknowledgment, next_packet, next_transfer, next_turn, other, Ready, Single}
+use Rattle.j39_node.proofs.Common.{all_replies, claim_due, claim_goes, gives_way, has_packets, lt-ltb, next_acknowledgment, next_packet, next_transfer, other}
 use Rattle.j39_node.proofs.LawLemmas.{sent_within}
 use Rattle.j39_node.proofs.PromptLaws.{answered_from}
 use Rattle.j39_node.proofs.QueueLemmas.{get_last, length_one_more, mapped_some}
-use Rattle.j39_node.proofs.SoundLemmas.{claim_is, frame_by, held_older, next_is, none_due_goes, none_gives, none_next, not_there, other_is, overdue_due, packet_there, past_end, some_at, sound}
+use Rattle.j39_node.proofs.SoundLemmas.{claim_is, frame_by, held_older, next_is, none_due_goes, none_gives, none_next, not_there, overdue_due, packet_there, past_end, some_at, sound}
 use Rattle.j39_node.specs.History.{accepted, acknowledged, Address, address_after, Call, claim_address, claim_from, content, delayed, due, holds, is_held, is_lost, Message, message_from, message_of, older, open_broadcast, owes_claim, packets, pause, reached, request_for, step, Who}
 use Rattle.j39_node.specs.History.Act.{Ask, Send, TakeFrame}
 use Rattle.j39_node.specs.History.Address.{Claimed, Lost, NotClaimed}
 use Rattle.j39_node.specs.History.Call.{At}
-use Rattle.j39_node.specs.Is.{AreAnswered, Is, is_overdue, next_frame, packet_by, ready, stamped, turn_of}
+use Rattle.j39_node.specs.Is.{AreAnswered, Is, is_overdue, next_frame, packet_by, ready, stamped, turn_frame, turn_of}
+use Rattle.j39_node.specs.Reception.{yields}
 use Rattle.j39_node.specs.Transfers.{age, carried_by, clock, transfers_at}
 use Rattle.j39_node.specs.declared.controller.Controller.{Controller}
 use Rattle.j39_node.specs.declared.kinds.Refused.{Refused}
@@ -43,9 +44,6 @@ held_by : (h : Bool) (k : ℕ) (x : Result ℕ Refused) → Ok k ≡ (if h then 
 held_by true k x e = refl
 held_by false k x e = absurd cc
 
-single : (y : Bool) (r : Ready) → r.overdue ≡ false → r.reply ≡ false → r.message ≡ true → turn_of y r ≡ Some Single
-single y r p q t = λ i. turn_of y (let s : Ready = record { overdue = p i; reply = q i; message = t i; packet = r.packet; transfer = r.transfer } in s)
-
 -- behind K none is taken, and then, at the same moment, one more is accepted
 module _ (w : Who) (K : List Call) (now : ℕ) where
   abbrev G : List Call
@@ -56,7 +54,7 @@ module _ (w : Who) (K : List Call) (now : ℕ) where
       → next_frame w L now ≡ Some (now, x.1)
   next_with L x c h a r p e n =
       next_is w L now None (Some x.1) (ap (λ (b : Bool). b && not (gives_way w L now)) c) h (none_due_goes w L now a)
-      (other_is w L now (Some Single) (single _ (ready w L now) overdue reply message) ∙ ap (option_map content) is)
+      (single ∙ ap (option_map content) is)
     where
       overdue : is_overdue w L now ≡ false
       overdue = false_from_ne_true _ (λ o. not_there (next_packet w L now)
@@ -67,6 +65,10 @@ module _ (w : Who) (K : List Call) (now : ℕ) where
 
       message : (ready w L now).message ≡ true
       message = lt-ltb (reached L) (length (accepted w L)) (let z = ap length e in let l = length_one_more (accepted w K) x in omega (arith, z, l, n))
+
+      single : other w L now ≡ option_map content (slice_get (accepted w L) (reached L))
+      single = λ i. turn_frame (turn_of (yields w L) (record (ready w L now) { overdue = overdue i; reply = reply i; message = message i }))
+          (slice_get (all_replies w L) 0) (slice_get (accepted w L) (reached L)) (next_packet w L now) (next_transfer w L now)
 
       is : slice_get (accepted w L) (reached L) ≡ Some x
       is = (λ i. slice_get (e i) (n i)) ∙ get_last (accepted w K) x
@@ -82,14 +84,14 @@ module _ (w : Who) (K : List Call) (now : ℕ) where
       → (claim_due w Then now ≡ false → holds w Then now ≡ true → next_packet w Then now ≡ None → slice_get (due w K) (length (acknowledged K)) ≡ None
       → slice_get (all_replies w K) 0 ≡ None → reached K ≡ length (accepted w K) → next_frame w L now ≡ Some (now, x.1))
       → next_frame w L now ≡ Some (now, x.1)
-  goes L x right held use =
+  goes L x right held all =
       let b = older (step K now) (address_after w K) in
       let earlier : holds w K now ≡ true = ap is_held (sym (no_time now b)) ∙ held in
       let none = none_next w K now earlier right.1 in
       let left : ((delayed w K - step K now) - (now - now)) - (now - now) ≡ delayed w K - step K now = omega arith in
       let paused : ((pause K - step K now) - (now - now)) - (now - now) ≡ pause K - step K now = omega arith in
       let lost = as_lost (now - now) b ∙ as_lost (step K now) (address_after w K) in
-      use ((λ i. owes_claim w K && (not (lost i) || nat_eq (left i) 0)) ∙ none_due earlier right.1)
+      all ((λ i. owes_claim w K && (not (lost i) || nat_eq (left i) 0)) ∙ none_due earlier right.1)
       (held_older (now - now) (older (now - now) b) held)
       (ap (packet_by (open_broadcast w K) (length (packets K))) paused ∙ none.rest.packet)
       none.acknowledgment none.rest.reply

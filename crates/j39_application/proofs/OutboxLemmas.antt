@@ -130,7 +130,7 @@ module _ (now n k : ℕ) (all old left : List Letter) (first before behind : Lis
 
 -- all had it, or a frame was taken
 pub is_take : (now n k : ℕ) (s new : OutboxRecord) (b c : Controller) (frame : Option FrameRecord)
-    → IsUnderWay now n k (older now s) new.letters s.settled new.settled b c frame → (frame ≡ None → k ≡ n)
+    → IsUnderWay now n k (older now s) new.letters s.settled new.settled b c frame → (frame ≡ None → n ≤ k)
     → new.boxes ≡ s.boxes → new.accepted ≡ s.accepted → new.moment ≡ now → IsTake now s b c frame new
 is_take now n k s new b c frame u all e f m =
     subst (λ (o : Option FrameRecord). IsTake now s b c o new) u.last
@@ -325,7 +325,7 @@ each_told so boxes (Tells ∷ E) n =
 
 -- ---- where it goes
 
-done_at : (w : Who) (H : List Call) (now : ℕ) (later : List Deed) (d : Deed) (earlier : List Deed) → AreDone w H now (later ++ d ∷ earlier)
+pub done_at : (w : Who) (H : List Call) (now : ℕ) (later : List Deed) (d : Deed) (earlier : List Deed) → AreDone w H now (later ++ d ∷ earlier)
     → AreDone w H now (d ∷ earlier)
 done_at w H now [] d earlier t = t
 done_at w H now (x ∷ later) d earlier t = done_at w H now later d earlier t.2
