@@ -125,7 +125,7 @@ int32_t j39_outbox_new(j1939_handle *outbox, uint8_t boxes);
 int32_t j39_outbox_send(j1939_handle *outbox, uint64_t micros, uint64_t name, uint8_t priority, uint32_t pgn,
                         const uint8_t *payload, uint64_t size, uint64_t *number);
 int32_t j39_outbox_ask(j1939_handle *outbox, uint64_t micros, uint64_t name, uint32_t pgn, uint64_t *number);
-int32_t j39_outbox_turn(j1939_handle *outbox, j1939_handle *controller, uint64_t micros);
+int32_t j39_outbox_take_frame(j1939_handle *outbox, j1939_handle *controller, uint64_t micros, j1939_frame *out);
 int32_t j39_outbox_take_settled(j1939_handle *outbox, j1939_settled *settled);
 int32_t j39_outbox_due_in(j1939_handle *outbox, uint64_t *micros);
 
@@ -676,8 +676,8 @@ int32_t j1939_outbox_ask(j1939_outbox *outbox, uint64_t micros, uint64_t name, u
     return outbox && number ? j39_outbox_ask(&outbox->handle, micros, name, pgn, number) : J1939_NULL;
 }
 
-int32_t j1939_outbox_turn(j1939_outbox *outbox, j1939_controller *controller, uint64_t micros) {
-    return outbox && controller ? j39_outbox_turn(&outbox->handle, &controller->handle, micros) : J1939_NULL;
+int32_t j1939_outbox_take_frame(j1939_outbox *outbox, j1939_controller *controller, uint64_t micros, j1939_frame *out) {
+    return outbox && controller && out ? j39_outbox_take_frame(&outbox->handle, &controller->handle, micros, out) : J1939_NULL;
 }
 
 int32_t j1939_outbox_take_settled(j1939_outbox *outbox, j1939_settled *settled) {

@@ -917,7 +917,7 @@ int32_t j1939_answers_close(j1939_answers *answers);
  * Where a program knows another by its NAME, this keeps what is for it till that NAME holds an address and the controller has room. Each
  * is numbered, from 0 on, and how it was settled is told once. The loop:
  *  - .._send and .._ask, at any time;
- *  - after j1939_controller_hear, and .._take_ended, by which room comes, and once .._due_in is over, .._turn;
+ *  - in place of j1939_controller_take_frame, .._take_frame until it answers 0, also once .._due_in is over;
  *  - then .._take_settled until it answers 0; each frees a box.
  *
  * A handle that holds no outbox, or no controller, is answered by J1939_NO_PART, and then both are as they were. */
@@ -945,11 +945,12 @@ int32_t j1939_outbox_send(j1939_outbox *outbox, uint64_t micros, uint64_t name, 
  * @return 0, 1, J1939_BAD_VALUE, J1939_NO_PART, J1939_FULL */
 int32_t j1939_outbox_ask(j1939_outbox *outbox, uint64_t micros, uint64_t name, uint32_t pgn, uint64_t *number);
 
-/** Gives each that is kept its turn, the oldest first. It is handed in, as by j1939_controller_send or .._ask, to the address that its
- * NAME holds, by the claims that the controller heard and its own that were taken. What finds no room there stays. So does, for 1250 ms,
- * what has a NAME without address, or a controller that holds none itself: they count anew from each turn at which both hold one.
- * @return 0, J1939_BAD_VALUE, J1939_NO_PART */
-int32_t j1939_outbox_turn(j1939_outbox *outbox, j1939_controller *controller, uint64_t micros);
+/** Takes the frame that is to go out: 1 where it stands in *out, else 0. What the controller has due goes first. Else each that is kept,
+ * the oldest first, is handed in, as by j1939_controller_send or .._ask, to the address that its NAME holds now, by the claims that the
+ * controller heard and its own that were taken, till a frame is due by that: of one frame its own. What finds no room stays. So does, for
+ * 1250 ms, what has a NAME without address, or a controller that holds none itself: they count anew from each call at which both hold one.
+ * @return 0, 1, J1939_BAD_VALUE, J1939_NO_PART */
+int32_t j1939_outbox_take_frame(j1939_outbox *outbox, j1939_controller *controller, uint64_t micros, j1939_frame *out);
 
 /** How one was settled. */
 enum j1939_settlement {
@@ -970,8 +971,8 @@ typedef struct {
  * @return 0 to 3, J1939_NO_PART */
 int32_t j1939_outbox_take_settled(j1939_outbox *outbox, j1939_settled *settled);
 
-/** In how many microseconds the first 1250 ms are over, from the last .._turn on, or the last .._send or .._ask that kept one: 1 and the
- * time, 0 of which is left where they are over; or 0 where none is kept.
+/** In how many microseconds the first 1250 ms are over, from the last .._take_frame that handed one in or answered 0, or the last .._send or .._ask
+ * that kept one: 1 and the time, 0 of which is left where they are over; or 0 where none is kept.
  * @return 0, 1, J1939_NO_PART */
 int32_t j1939_outbox_due_in(const j1939_outbox *outbox, uint64_t *micros);
 

@@ -137,7 +137,8 @@ static void null_pointers(void) {
     EXPECT(j1939_outbox_send(&outbox, 0, 1, 6, 61184, NULL, 0, &name) == J1939_NULL);
     EXPECT(j1939_outbox_send(&outbox, 0, 1, 6, 61184, payload, 1, NULL) == J1939_NULL);
     EXPECT(j1939_outbox_ask(&outbox, 0, 1, 65260, NULL) == J1939_NULL);
-    EXPECT(j1939_outbox_turn(&outbox, NULL, 0) == J1939_NULL);
+    EXPECT(j1939_outbox_take_frame(&outbox, NULL, 0, &out) == J1939_NULL);
+    EXPECT(j1939_outbox_take_frame(&outbox, &controller, 0, NULL) == J1939_NULL);
     EXPECT(j1939_outbox_take_settled(NULL, &settled) == J1939_NULL);
     EXPECT(j1939_outbox_take_settled(&outbox, NULL) == J1939_NULL);
     EXPECT(j1939_outbox_due_in(&outbox, NULL) == J1939_NULL);
@@ -1126,8 +1127,9 @@ static void kept_answers(void) {
 
 /* Each call with a pair of handles of which one holds another part, or none: what the other holds stays. */
 static void no_outbox(j1939_outbox *outbox, j1939_controller *controller) {
-    EXPECT(j1939_outbox_turn(outbox, controller, 1) == J1939_NO_PART);
-    EXPECT(j1939_outbox_turn(outbox, controller, LATE) == J1939_BAD_VALUE);
+    out.id = 7;
+    EXPECT(j1939_outbox_take_frame(outbox, controller, 1, &out) == J1939_NO_PART && out.id == 7);
+    EXPECT(j1939_outbox_take_frame(outbox, controller, LATE, &out) == J1939_BAD_VALUE && out.id == 7);
 }
 
 /* Each call with a handle that holds no outbox. */
@@ -1167,7 +1169,19 @@ static void comes(j1939_controller *controller, uint8_t address, uint64_t now) {
 
 static const uint64_t OTHER = 0x8000000000000009u;
 
-/* A message, and a request, wait for a NAME that comes 1,249,999 us later; what doesn't fit the boxes or a frame's fields is refused. */
+/* The frame that goes out of an outbox at a moment. */
+static uint32_t given(j1939_outbox *outbox, j1939_controller *controller, uint64_t now) {
+    int32_t answer = j1939_outbox_take_frame(outbox, controller, now, &out);
+    EXPECT(answer == 0 || (answer == 1 && out.micros == now));
+    return answer ? out.id : 0;
+}
+
+static int is_given(j1939_outbox *outbox, j1939_controller *controller, uint64_t now, uint32_t id, const uint8_t bytes[8]) {
+    return given(outbox, controller, now) == id && out.len == 8 && memcmp(out.data, bytes, 8) == 0;
+}
+
+/* A message, and a request, wait for a NAME that comes 1,249,999 us later, and moves between their two frames; what doesn't fit the boxes
+ * or a frame's fields is refused. */
 static void handed_in(j1939_outbox *outbox, j1939_controller *controller) {
     uint64_t number = 7;
     EXPECT(j1939_outbox_due_in(outbox, &number) == 0 && is_settled(outbox, 0, 7, 7, 7) && number == 7);
@@ -1177,35 +1191,39 @@ static void handed_in(j1939_outbox *outbox, j1939_controller *controller) {
     EXPECT(j1939_outbox_send(outbox, 300000, OTHER, 5, 61184, payload, 8, &number) == 1 && number == 0);
     EXPECT(j1939_outbox_ask(outbox, 300000, OTHER, 65260, &number) == 1 && number == 1);
     EXPECT(j1939_outbox_ask(outbox, 300000, OTHER, 65259, &number) == J1939_FULL && number == 1);
-    EXPECT(j1939_outbox_turn(outbox, controller, 1549999) == 0 && has_time(outbox, 1));
-    EXPECT(is_settled(outbox, 0, 7, 7, 7) && taken(controller, 1549999) == 0);
+    EXPECT(given(outbox, controller, 1549999) == 0 && has_time(outbox, 1) && is_settled(outbox, 0, 7, 7, 7));
     comes(controller, 0x0B, 1549999);
-    EXPECT(j1939_outbox_turn(outbox, controller, 1550000) == 0 && j1939_outbox_due_in(outbox, &number) == 0);
+    EXPECT(is_given(outbox, controller, 1550000, 0x14EF0B80, payload) && has_time(outbox, 0));
+    comes(controller, 0x0C, 1550000);
+    EXPECT(given(outbox, controller, 1550000) == 0x18EA0C80 && j1939_outbox_due_in(outbox, &number) == 0);
+    EXPECT(out.len == 3 && out.data[0] == 0xEC && out.data[1] == 0xFE && out.data[2] == 0);
+    EXPECT(given(outbox, controller, 1550000) == 0);
     EXPECT(j1939_outbox_ask(outbox, 1550000, OTHER, 65259, &number) == J1939_FULL); /* no end was told */
     EXPECT(is_settled(outbox, J1939_SETTLED_HANDED_IN, 0, 0, 0) && is_settled(outbox, J1939_SETTLED_HANDED_IN, 1, 4, 0));
     EXPECT(is_settled(outbox, 0, 7, 7, 7));
-    EXPECT(goes(controller, 1550000, 0x14EF0B80, payload) && taken(controller, 1550000) == 0x18EA0B80);
-    EXPECT(out.len == 3 && out.data[0] == 0xEC && out.data[1] == 0xFE && out.data[2] == 0);
     EXPECT(is_ended(controller, J1939_ENDED_MESSAGE, 0, J1939_ENDED_DONE));
     EXPECT(is_ended(controller, J1939_ENDED_MESSAGE, 4, J1939_ENDED_DONE));
 }
 
-/* In packets to the address where it is now, under the token of a transfer; there is room for one, and the next stays till it ended. */
+/* In packets to the address where it is now, under the token of a transfer; there is room for one, and the next stays till it ended. That
+ * ends as its NAME moves. */
 static void handed_in_later(j1939_outbox *outbox, j1939_controller *controller) {
     static const uint8_t rts[8] = {0x10, 18, 0, 3, 0xFF, 0x00, 0xEF, 0}, abort[8] = {0xFF, 2, 0xFF, 0xFF, 0xFF, 0x00, 0xEF, 0};
+    static const uint8_t next[8] = {0x10, 9, 0, 2, 0xFF, 0x00, 0xEF, 0};
     j1939_frame refusal = {.id = 0x1CEC800C, .len = 8};
     uint64_t number;
-    comes(controller, 0x0C, 1600000);
     EXPECT(j1939_outbox_send(outbox, 1600000, OTHER, 6, 61184, payload, 18, &number) == 1 && number == 2);
     EXPECT(j1939_outbox_send(outbox, 1600000, OTHER, 6, 61184, payload, 9, &number) == 1 && number == 3);
-    EXPECT(j1939_outbox_turn(outbox, controller, 1600000) == 0 && has_time(outbox, 1250000));
+    EXPECT(is_given(outbox, controller, 1600000, 0x1CEC0C80, rts));
+    EXPECT(given(outbox, controller, 1600000) == 0 && has_time(outbox, 1250000));
     EXPECT(is_settled(outbox, J1939_SETTLED_HANDED_IN, 2, 2, 0) && is_settled(outbox, 0, 7, 7, 7));
-    EXPECT(goes(controller, 1600000, 0x1CEC0C80, rts));
     memcpy(refusal.data, abort, sizeof abort);
     EXPECT(j1939_controller_hear(controller, &refusal, 1600000) == 0);
-    EXPECT(j1939_outbox_turn(outbox, controller, 1600000) == 0 && is_settled(outbox, 0, 7, 7, 7));
+    EXPECT(given(outbox, controller, 1600000) == 0 && is_settled(outbox, 0, 7, 7, 7));
     EXPECT(is_ended(controller, J1939_ENDED_TRANSFER, 2, J1939_ENDED_FAILED));
-    EXPECT(j1939_outbox_turn(outbox, controller, 1600000) == 0 && is_settled(outbox, J1939_SETTLED_HANDED_IN, 3, 6, 0));
+    EXPECT(is_given(outbox, controller, 1600000, 0x1CEC0C80, next) && is_settled(outbox, J1939_SETTLED_HANDED_IN, 3, 6, 0));
+    comes(controller, 0x0D, 1600000);
+    EXPECT(is_ended(controller, J1939_ENDED_TRANSFER, 6, J1939_ENDED_GONE) && given(outbox, controller, 1600000) == 0);
 }
 
 /* One for a NAME that never comes is gone after 1,250 ms; what no identifier can be to an address is refused for good. What comes while
@@ -1215,16 +1233,17 @@ static void gone_and_refused(j1939_outbox *outbox, j1939_controller *controller)
     uint64_t number;
     EXPECT(j1939_outbox_send(outbox, 1700000, 77, 6, 61184, payload, 3, &number) == 1 && number == 4);
     EXPECT(j1939_outbox_send(outbox, 1700000, OTHER, 6, 60928, payload, 8, &number) == 1 && number == 5);
-    EXPECT(j1939_outbox_turn(outbox, controller, 2949999) == 0 && has_time(outbox, 1));
+    EXPECT(given(outbox, controller, 2949999) == 0 && has_time(outbox, 1));
     EXPECT(is_settled(outbox, J1939_SETTLED_REFUSED, 5, 0, J1939_BAD_VALUE) && is_settled(outbox, 0, 7, 7, 7));
-    EXPECT(j1939_outbox_turn(outbox, controller, 2950000) == 0 && j1939_outbox_due_in(outbox, &number) == 0);
+    EXPECT(given(outbox, controller, 2950000) == 0 && j1939_outbox_due_in(outbox, &number) == 0);
     EXPECT(is_settled(outbox, J1939_SETTLED_GONE, 4, 0, 0) && is_settled(outbox, 0, 7, 7, 7));
-    EXPECT(j1939_controller_again(controller, 3000000) == 0 && taken(controller, 3000000) == 0x18EEFF80);
     EXPECT(j1939_outbox_ask(outbox, 3000000, OTHER, 65260, &number) == 1 && number == 6);
-    EXPECT(j1939_outbox_turn(outbox, controller, 3249999) == 0 && has_time(outbox, 1000001));
+    EXPECT(j1939_controller_again(controller, 3000000) == 0 && given(outbox, controller, 3000000) == 0x18EEFF80);
+    EXPECT(given(outbox, controller, 3249999) == 0 && has_time(outbox, 1000001));
     EXPECT(j1939_controller_hear(controller, &claim, 3249999) == 0);
-    EXPECT(j1939_outbox_turn(outbox, controller, 4249999) == 0 && has_time(outbox, 1) && is_settled(outbox, 0, 7, 7, 7));
-    EXPECT(j1939_outbox_turn(outbox, controller, 4250000) == 0 && j1939_outbox_due_in(outbox, &number) == 0);
+    EXPECT(given(outbox, controller, 4249999) == 0x18EEFFFE && has_time(outbox, 1000001));
+    EXPECT(given(outbox, controller, 4249999) == 0 && has_time(outbox, 1) && is_settled(outbox, 0, 7, 7, 7));
+    EXPECT(given(outbox, controller, 4250000) == 0 && j1939_outbox_due_in(outbox, &number) == 0);
     EXPECT(is_settled(outbox, J1939_SETTLED_REFUSED, 6, 0, J1939_NO_ADDRESS));
 }
 

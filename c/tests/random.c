@@ -305,8 +305,9 @@ static void call_outbox(j1939_outbox *outbox, j1939_controller *controller) {
         answered(j1939_outbox_take_settled(outbox, &settled), J1939_NO_PART, J1939_SETTLED_GONE);
         mix(settled.number), mix(settled.token), mix((uint64_t)(int64_t)settled.refusal);
         break;
-    case 6: answered(j1939_outbox_turn(outbox, (j1939_controller *)&receivers[0], now), J1939_NO_PART, J1939_BAD_VALUE); break;
-    default: answered(j1939_outbox_turn(outbox, controller, now), J1939_NO_PART, 0);
+    case 6: answered(j1939_outbox_take_frame(outbox, (j1939_controller *)&receivers[0], now, &out), J1939_NO_PART, J1939_BAD_VALUE); break;
+    default:
+        if (answered(j1939_outbox_take_frame(outbox, controller, now, &out), J1939_NO_PART, 1) == 1) mix_frame(&out), tell_others(controller);
     }
 }
 

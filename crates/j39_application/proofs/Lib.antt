@@ -8,3 +8,5 @@ pub mod AnswerLemmas
 pub mod CourseLemmas
 -- what goes to NAMEs by turns, and what became of each
 pub mod OutboxLemmas
+-- what is handed in as one frame is taken at once
+pub mod AtOnce

@@ -4,14 +4,18 @@ use Rattle.std.proofs.lemmas.Bool.{cases_order}
 use Rattle.std.proofs.lemmas.List.{length-map}
 use Rattle.std.proofs.lemmas.List.Elements.{Contains-append_cases, Contains-push_cases}
 use Rattle.std.specs.List.{Contains}
+use Rattle.j39_frame.specs.Frame.{FrameRecord}
 use Rattle.j39_node.specs.History.{Call, Who}
+use Rattle.j39_node.specs.History.Act.{TakeFrame}
+use Rattle.j39_node.specs.History.Call.{At}
 use Rattle.j39_node.specs.Is.{Is}
 use Rattle.j39_node.specs.declared.controller.Controller.{Controller}
 use Rattle.j39_node.specs.declared.kinds.Refused.{Refused}
 use Rattle.j39_node.specs.declared.kinds.Refused.TheVariants as why
 use Rattle.j39_application.proofs.CourseLemmas.{count_append, count_next, one}
-use Rattle.j39_application.specs.Outbox.{aged, AreDone, calls, Deed, Does, ends, Errand, goes_by, hands_in, IsMet, IsTurn, keeps, can_go, has_room, kept, kept_anew, left_by, Letter, letters_of, older, OutboxRecord, patience, put, settled_by, settled_of, numbered, Stands, StandsNowhere}
+use Rattle.j39_application.specs.Outbox.{aged, AreDone, calls, Deed, Does, ends, Errand, goes_by, hands_in, IsMet, IsTake, IsTurn, keeps, can_go, has_room, kept, kept_anew, last_frame, left_by, Letter, letters_of, older, OutboxRecord, patience, put, settled_by, settled_of, numbered, Stands, StandsNowhere, turned}
 use Rattle.j39_application.specs.Outbox.Does.{gone, handed_in, waits}
+use Rattle.j39_application.specs.Outbox.IsTake.{turns}
 use Rattle.j39_application.specs.OutboxCourse.{after, AreTurns, Event, Gets, is_gone, is_handed_in, is_refused, Tells, times_among, times_kept, times_settled, times_told, Turns}
 use Rattle.j39_transfers.specs.Transfers.{listed}
 use Rattle.j39_application.specs.Answers.{LeadsOn}
@@ -48,28 +52,34 @@ is_waiting now o c n z = record { calls = []; does = λ w H h. waits (n w H h) (
 
 -- ---- all have their turn
 
--- k of n had it, by which the controller went from b to c, and those in front were settled before
-pub record IsUnderWay (now n k : ℕ) (all left : List Letter) (before behind : List (ℕ × Settled)) (b c : Controller) : Type 0 where
+-- k of n had it, by which the controller went from b to c, those in front were settled before, and this was taken last
+pub record IsUnderWay (now n k : ℕ) (all left : List Letter) (before behind : List (ℕ × Settled)) (b c : Controller) (frame : Option FrameRecord) : Type 0 where
   pub deeds : List Deed
   pub rest : List Letter
   pub seen : letters_of deeds ++ rest ≡ all
   pub does : (w : Who) (H : List Call) → Is w H b → AreDone w H now deeds
   pub stand : left ≡ rest ++ kept deeds
   pub ended : behind ≡ before ++ settled_of deeds
+  pub last : last_frame deeds ≡ frame
   pub count : length rest + k ≡ n
-  pub leads : LeadsOn (calls deeds) b c
+  pub leads : LeadsOn (calls now deeds) b c
 
-pub begins : {X : Type 0} (v : X → Letter) (now n : ℕ) (all : List Letter) (xs : List X) (before : List (ℕ × Settled)) (b : Controller)
-    → map v xs ≡ all → n ≡ length xs → IsUnderWay now n 0 all (map v xs) before before b b
-begins v now n all xs before b e l = record {
+-- this is taken
+abbrev pub Takes : ℕ → Option FrameRecord → Controller → Controller → Type 0
+Takes now frame b c = LeadsOn (At now (TakeFrame frame) ∷ []) b c
+
+pub begins : {X : Type 0} (v : X → Letter) (now n : ℕ) (all : List Letter) (xs : List X) (before : List (ℕ × Settled)) (b c : Controller)
+    → map v xs ≡ all → n ≡ length xs → Takes now None b c → IsUnderWay now n 0 all (map v xs) before before b c None
+begins v now n all xs before b c e l t = record {
   deeds = [];
   rest = map v xs;
   seen = e;
   does = λ w H h. tt;
   stand = sym (append-nil (map v xs));
   ended = sym (append-nil before);
+  last = refl;
   count = let z : length (map v xs) ≡ length xs = length-map xs v in omega arith;
-  leads = λ w H h. h;
+  leads = t;
 }
 
 -- what the turn of the first does
@@ -94,27 +104,47 @@ pub as_first : (now : ℕ) (end : Option (ℕ × Settled)) (old left : List Lett
 as_first now end old left before behind b c g q o R e =
     let f = g o R e in as_told now o f.0 f.1.0 end R left before behind b c f.1.1 f.1.2 f.2 q
 
-module _ (now n k : ℕ) (all old left : List Letter) (first before behind : List (ℕ × Settled)) (a b c : Controller) where
-  pub goes_on : IsUnderWay now n k all old first before a b → k < n → MeetsFirst now old left before behind b c
-      → IsUnderWay now n (k + 1) all left first behind a c
-  goes_on u l g = go u.rest refl
+module _ (now n k : ℕ) (all old left : List Letter) (first before behind : List (ℕ × Settled)) (a b c d : Controller) (frame : Option FrameRecord) where
+  pub goes_on : IsUnderWay now n k all old first before a b None → k < n → MeetsFirst now old left before behind b c → Takes now frame c d
+      → IsUnderWay now n (k + 1) all left first behind a d frame
+  goes_on u l g t = go u.rest refl
     where
-      go : (rest : List Letter) → u.rest ≡ rest → IsUnderWay now n (k + 1) all left first behind a c
+      go : (rest : List Letter) → u.rest ≡ rest → IsUnderWay now n (k + 1) all left first behind a d frame
       go [] e = absurd (let z : length u.rest ≡ 0 = ap length e in let s = u.count in omega arith)
       go (o ∷ R) e =
           let s = g o (R ++ kept u.deeds) (u.stand ∙ ap (λ os. os ++ kept u.deeds) e) in
           let met = s.2 in
-          let d : Deed = record { letter = o; calls = met.calls; after = s.0; settled = s.1 } in
+          let x : Deed = record { letter = o; calls = met.calls; after = s.0; settled = s.1; frame = frame } in
+          let C : List Call = calls now u.deeds in
           record {
-            deeds = d ∷ u.deeds;
+            deeds = x ∷ u.deeds;
             rest = R;
             seen = append_assoc (letters_of u.deeds) (o ∷ []) R ∙ (ap (λ os. letters_of u.deeds ++ os) (sym e) ∙ u.seen);
-            does = λ w H h. (met.does w (calls u.deeds ++ H) (u.leads w H h), u.does w H h);
+            does = λ w H h. (met.does w (C ++ H) (u.leads w H h), u.last, u.does w H h);
             stand = s.3 ∙ append_assoc R (kept u.deeds) (stays s.1 s.0);
             ended = s.4 ∙ (ap (λ xs. xs ++ ends s.1 o.number) u.ended ∙ append_assoc first (settled_of u.deeds) (ends s.1 o.number));
+            last = refl;
             count = let z : length u.rest ≡ length (o ∷ R) = ap length e in let s = u.count in omega arith;
-            leads = λ w H h. subst (λ (K : List Call). Is w K c) (sym (append_assoc d.calls (calls u.deeds) H)) (met.leads w (calls u.deeds ++ H) (u.leads w H h));
+            leads = λ w H h. t w ((x.calls ++ C) ++ H) (subst (λ (K : List Call). Is w K c) (sym (append_assoc x.calls C H)) (met.leads w (C ++ H) (u.leads w H h)));
           }
+
+-- all had it, or a frame was taken
+pub is_take : (now n k : ℕ) (s new : OutboxRecord) (b c : Controller) (frame : Option FrameRecord)
+    → IsUnderWay now n k (older now s) new.letters s.settled new.settled b c frame → (frame ≡ None → n ≤ k)
+    → new.boxes ≡ s.boxes → new.accepted ≡ s.accepted → new.moment ≡ now → IsTake now s b c frame new
+is_take now n k s new b c frame u all e f m =
+    subst (λ (o : Option FrameRecord). IsTake now s b c o new) u.last
+    (subst (λ (x : OutboxRecord). IsTake now s b c (last_frame u.deeds) x) is (turns u.deeds u.rest (λ w H h. record { each = u.seen; does = u.does w H h; all = none }) u.leads))
+  where
+    empty : (rest : List Letter) → length rest ≡ 0 → rest ≡ []
+    empty [] z = refl
+    empty (o ∷ R) z = absurd (omega (arith, z))
+
+    none : last_frame u.deeds ≡ None → u.rest ≡ []
+    none z = empty u.rest (let q = all (sym u.last ∙ z) in let l = u.count in omega (arith, q, l))
+
+    is : turned now u.deeds u.rest s ≡ new
+    is = λ i. record { boxes = sym e i; accepted = sym f i; moment = sym m i; letters = sym u.stand i; settled = sym u.ended i }
 
 -- ---- each has one fate
 
@@ -168,12 +198,12 @@ deeds_counted : (w : Who) (H : List Call) (now n : ℕ) (ds : List Deed) → Are
     → times_kept n (letters_of ds) ≡ times_kept n (kept ds) + fates n (settled_of ds)
 deeds_counted w H now n [] t = refl
 deeds_counted w H now n (d ∷ ds) t =
-    let h = deeds_counted w H now n ds t.1 in
+    let h = deeds_counted w H now n ds t.2 in
     let all : times_kept n (letters_of (d ∷ ds)) ≡ times_kept n (letters_of ds) + times_kept n (d.letter ∷ []) = count_append (is_of n) (letters_of ds) (d.letter ∷ []) in
     let last : times_kept n (d.letter ∷ []) ≡ one (is_of n d.letter) + 0 = count_next (is_of n) d.letter [] in
     let those : times_kept n (kept (d ∷ ds)) ≡ times_kept n (kept ds) + times_kept n (stays d.settled d.after) = count_append (is_of n) (kept ds) (stays d.settled d.after) in
     let ended : fates n (settled_of (d ∷ ds)) ≡ fates n (settled_of ds) + fates n (ends d.settled d.letter.number) = fates_append n (settled_of ds) (ends d.settled d.letter.number) in
-    let mine = one_deed n d.letter d.after d.settled (number_stays w (calls ds ++ H) now d.letter d.after d.calls d.settled t.0) in
+    let mine = one_deed n d.letter d.after d.settled (number_stays w (calls now ds ++ H) now d.letter d.after d.calls d.settled t.0) in
     omega arith
 
 kept_aged : (n time : ℕ) (os : List Letter) → times_kept n (map (aged time) os) ≡ times_kept n os
@@ -237,13 +267,15 @@ counted_after boxes now name n e E h false = h
 counted : (boxes n : ℕ) (E : List Event) → AreTurns boxes E → IsCounted n (after boxes E).accepted (total boxes n E)
 counted boxes n [] t = ((λ l. absurd (let z : n < 0 = l in omega (arith, z))), (λ l. refl))
 counted boxes n (Gets now name e ∷ E) t = counted_after boxes now name n e E (counted boxes n E t) (can_go e)
-counted boxes n (Turns now ds ∷ E) t =
+counted boxes n (Turns now ds rest ∷ E) t =
     let s = after boxes E in
     let h : IsCounted n s.accepted (times_kept n s.letters + ended n E) = counted boxes n E t.1 in
     let turn = t.0.2 in
     let a = deeds_counted t.0.0 t.0.1 now n ds turn.does in
-    let b : times_kept n (letters_of ds) ≡ times_kept n s.letters = ap (times_kept n) turn.each ∙ kept_aged n (now - s.moment) s.letters in
-    let same : times_kept n (kept ds) + ((times_among is_handed_in n (settled_of ds) + times_settled is_handed_in n E)
+    let b : times_kept n (letters_of ds ++ rest) ≡ times_kept n s.letters = ap (times_kept n) turn.each ∙ kept_aged n (now - s.moment) s.letters in
+    let l : times_kept n (letters_of ds ++ rest) ≡ times_kept n (letters_of ds) + times_kept n rest = count_append (is_of n) (letters_of ds) rest in
+    let r : times_kept n (rest ++ kept ds) ≡ times_kept n rest + times_kept n (kept ds) = count_append (is_of n) rest (kept ds) in
+    let same : times_kept n (rest ++ kept ds) + ((times_among is_handed_in n (settled_of ds) + times_settled is_handed_in n E)
     + ((times_among is_refused n (settled_of ds) + times_settled is_refused n E) + (times_among is_gone n (settled_of ds) + times_settled is_gone n E)))
     ≡ times_kept n s.letters + ended n E = omega arith in
     subst (λ (x : ℕ). IsCounted n s.accepted x) (sym same) h
@@ -279,7 +311,7 @@ pub each_told : (so : Settled → Bool) (boxes : ℕ) (E : List Event) (n : ℕ)
 each_told so boxes [] n = refl
 each_told so boxes (Gets now name e ∷ E) n =
     each_told so boxes E n ∙ ap (λ (m : ℕ). m + times_told so n boxes E) (sym (settled_after_put so now name n e (after boxes E)))
-each_told so boxes (Turns now ds ∷ E) n =
+each_told so boxes (Turns now ds rest ∷ E) n =
     let h : times_settled so n E ≡ times_among so n (after boxes E).settled + times_told so n boxes E = each_told so boxes E n in
     let a : times_among so n ((after boxes E).settled ++ settled_of ds) ≡ times_among so n (after boxes E).settled + times_among so n (settled_of ds) = count_append (is_so so n) (after boxes E).settled (settled_of ds) in
     let g : times_among so n (settled_of ds) + times_settled so n E ≡ times_among so n ((after boxes E).settled ++ settled_of ds) + times_told so n boxes E = omega arith in
@@ -293,10 +325,10 @@ each_told so boxes (Tells ∷ E) n =
 
 -- ---- where it goes
 
-done_at : (w : Who) (H : List Call) (now : ℕ) (later : List Deed) (d : Deed) (earlier : List Deed) → AreDone w H now (later ++ d ∷ earlier)
-    → Does w (calls earlier ++ H) now d.letter d.calls d.after d.settled
-done_at w H now [] d earlier t = t.0
-done_at w H now (x ∷ later) d earlier t = done_at w H now later d earlier t.1
+pub done_at : (w : Who) (H : List Call) (now : ℕ) (later : List Deed) (d : Deed) (earlier : List Deed) → AreDone w H now (later ++ d ∷ earlier)
+    → AreDone w H now (d ∷ earlier)
+done_at w H now [] d earlier t = t
+done_at w H now (x ∷ later) d earlier t = done_at w H now later d earlier t.2
 
 abbrev GoesTo : Who → List Call → ℕ → Letter → Call → Type 0
 GoesTo w H now o call = (a : ℕ) × (answer : Result ℕ Refused) × (call ≡ hands_in now o.errand a answer) × Stands w H o.name a
@@ -310,11 +342,10 @@ handed_to w H now o _ _ _ call (handed_in a answer s y) h = elim (Contains-push_
 handed_to w H now o _ _ _ call (waits s l) h = absurd (let l = h.1 in omega arith)
 handed_to w H now o _ _ _ call (gone s z) h = absurd (let l = h.1 in omega arith)
 
-pub to_its_name : (w : Who) (H : List Call) (now : ℕ) (s : OutboxRecord) (later : List Deed) (d : Deed) (earlier : List Deed) (call : Call)
-    → IsTurn w H now s (later ++ d ∷ earlier) → Contains d.calls call → (a : ℕ) × (answer : Result ℕ Refused)
-    × (call ≡ hands_in now d.letter.errand a answer) × Stands w (calls earlier ++ H) d.letter.name a
-to_its_name w H now s later d earlier call t h =
-    handed_to w (calls earlier ++ H) now d.letter d.after d.calls d.settled call (done_at w H now later d earlier t.does) h
+pub to_its_name : (w : Who) (H : List Call) (now : ℕ) (s : OutboxRecord) (later : List Deed) (d : Deed) (earlier : List Deed) (rest : List Letter) (call : Call)
+    → IsTurn w H now s (later ++ d ∷ earlier) rest → Contains d.calls call → GoesTo w (calls now earlier ++ H) now d.letter call
+to_its_name w H now s later d earlier rest call t h =
+    handed_to w (calls now earlier ++ H) now d.letter d.after d.calls d.settled call (done_at w H now later d earlier t.does).0 h
 
 refused_or_kept : (b : Bool) → (if b then Some (settled.Refused why.NoAddress) else None) ≡ Some settled.Gone → ⊥
 refused_or_kept true e = cc
@@ -332,11 +363,11 @@ went w H now o _ _ _ (handed_in a answer s y) e = absurd (never_gone o.left answ
 went w H now o _ _ _ (waits s l) e = absurd cc
 went w H now o _ _ _ (gone s z) e = (s, z)
 
-pub by_nobody : (w : Who) (H : List Call) (now : ℕ) (s : OutboxRecord) (later : List Deed) (d : Deed) (earlier : List Deed)
-    → IsTurn w H now s (later ++ d ∷ earlier) → d.settled ≡ Some settled.Gone
-    → StandsNowhere w (calls earlier ++ H) d.letter.name × (d.letter.left ≡ 0)
-by_nobody w H now s later d earlier t e =
-    went w (calls earlier ++ H) now d.letter d.after d.calls d.settled (done_at w H now later d earlier t.does) e
+pub by_nobody : (w : Who) (H : List Call) (now : ℕ) (s : OutboxRecord) (later : List Deed) (d : Deed) (earlier : List Deed) (rest : List Letter)
+    → IsTurn w H now s (later ++ d ∷ earlier) rest → d.settled ≡ Some settled.Gone
+    → StandsNowhere w (calls now earlier ++ H) d.letter.name × (d.letter.left ≡ 0)
+by_nobody w H now s later d earlier rest t e =
+    went w (calls now earlier ++ H) now d.letter d.after d.calls d.settled (done_at w H now later d earlier t.does).0 e
 
 none_left : (b : Bool) (left : ℕ) → nat_eq left 0 ≡ b → (if b then Some (settled.Refused why.NoAddress) else None) ≡ Some (settled.Refused why.NoAddress)
     → left ≡ 0
@@ -359,11 +390,10 @@ was_refused w H now o _ _ _ (handed_in a answer s y) e = refused_by now o a answ
 was_refused w H now o _ _ _ (waits s l) e = absurd cc
 was_refused w H now o _ _ _ (gone s z) e = absurd cc
 
-pub by_nothing : (w : Who) (H : List Call) (now : ℕ) (s : OutboxRecord) (later : List Deed) (d : Deed) (earlier : List Deed)
-    → IsTurn w H now s (later ++ d ∷ earlier) → d.settled ≡ Some (settled.Refused why.NoAddress) → (a : ℕ)
-    × (d.calls ≡ hands_in now d.letter.errand a (Err why.NoAddress) ∷ []) × (d.letter.left ≡ 0)
-by_nothing w H now s later d earlier t e =
-    was_refused w (calls earlier ++ H) now d.letter d.after d.calls d.settled (done_at w H now later d earlier t.does) e
+pub by_nothing : (w : Who) (H : List Call) (now : ℕ) (s : OutboxRecord) (later : List Deed) (d : Deed) (earlier : List Deed) (rest : List Letter)
+    → IsTurn w H now s (later ++ d ∷ earlier) rest → d.settled ≡ Some (settled.Refused why.NoAddress) → IsRefused now d.letter d.calls
+by_nothing w H now s later d earlier rest t e =
+    was_refused w (calls now earlier ++ H) now d.letter d.after d.calls d.settled (done_at w H now later d earlier t.does).0 e
 
 -- ---- none waits too long
 
@@ -386,18 +416,19 @@ left_after w H now o _ _ _ (gone s z) e = absurd cc
 kept_left : (w : Who) (H : List Call) (now : ℕ) (ds : List Deed) (o : Letter) → AreDone w H now ds → Contains (kept ds) o → 0 < o.left
 kept_left w H now [] o t h = absurd (let l = h.1 in omega arith)
 kept_left w H now (d ∷ ds) o t h = elim (Contains-append_cases (kept ds) _ o h) [
-  | inl k ↦ kept_left w H now ds o t.1 k
+  | inl k ↦ kept_left w H now ds o t.2 k
   | inr k ↦ go d.settled t.0 k
 ]
   where
-    mine : Contains [] o ⊎ (d.after ≡ o) → Does w (calls ds ++ H) now d.letter d.calls d.after None → 0 < o.left
+    mine : Contains [] o ⊎ (d.after ≡ o) → Does w (calls now ds ++ H) now d.letter d.calls d.after None → 0 < o.left
     mine (inl k) does = absurd (let l = k.1 in omega arith)
-    mine (inr e) does = subst (λ (x : Letter). 0 < x.left) e (left_after w (calls ds ++ H) now d.letter d.after d.calls None does refl)
+    mine (inr e) does = subst (λ (x : Letter). 0 < x.left) e (left_after w (calls now ds ++ H) now d.letter d.after d.calls None does refl)
 
-    go : (how : Option Settled) → Does w (calls ds ++ H) now d.letter d.calls d.after how → Contains (stays how d.after) o → 0 < o.left
+    go : (how : Option Settled) → Does w (calls now ds ++ H) now d.letter d.calls d.after how → Contains (stays how d.after) o → 0 < o.left
     go None does k = mine (Contains-push_cases [] d.after o k) does
     go (Some s) does k = absurd (let l = k.1 in omega arith)
 
-pub some_left : (w : Who) (H : List Call) (now : ℕ) (s : OutboxRecord) (ds : List Deed) (o : Letter) → IsTurn w H now s ds
-    → Contains (kept ds) o → 0 < o.left
-some_left w H now s ds o t h = kept_left w H now ds o t.does h
+pub some_left : (w : Who) (H : List Call) (now : ℕ) (s : OutboxRecord) (ds : List Deed) (rest : List Letter) (o : Letter)
+    → IsTurn w H now s ds rest → last_frame ds ≡ None → Contains (rest ++ kept ds) o → 0 < o.left
+some_left w H now s ds rest o t n h =
+    kept_left w H now ds o t.does (subst (λ (os : List Letter). Contains (os ++ kept ds) o) (t.all n) h)

@@ -3,8 +3,9 @@ use Rattle.std.specs.Prelude.{◌≡◌, ◌<◌, ◌^◌, ◌+◌, ◌-◌, ◌
 use Rattle.std.specs.Option.{option_map}
 use Rattle.j39_address.specs.Claim.{claims_of}
 use Rattle.j39_address.specs.Holder.{IsHolderAfter}
-use Rattle.j39_node.specs.History.{Call, Draft, told_claims, Who}
-use Rattle.j39_node.specs.History.Act.{Ask}
+use Rattle.j39_frame.specs.Frame.{FrameRecord}
+use Rattle.j39_node.specs.History.{Call, Draft, request_for, told_claims, Who}
+use Rattle.j39_node.specs.History.Act.{Ask, TakeFrame}
 use Rattle.j39_node.specs.History.Call.{At}
 use Rattle.j39_node.specs.Is.{Is}
 use Rattle.j39_node.specs.declared.controller.Controller.{Controller}
@@ -93,7 +94,7 @@ tells s = record s { settled = drop 1 s.settled }
 abbrev pub soonest : List Letter → Option ℕ
 soonest os = soonest_of (λ o. o.left) os
 
--- ---- a turn
+-- ---- a frame is taken
 
 -- by the claims that were told to a controller a NAME holds this address, or none (J1939-81, 4.2.2)
 abbrev pub Stands : Who → List Call → ℕ → ℕ → Type 0
@@ -102,17 +103,17 @@ Stands w H name a = IsHolderAfter (claims_of (told_claims w H)) a (Some name)
 abbrev pub StandsNowhere : Who → List Call → ℕ → Type 0
 StandsNowhere w H name = (a : ℕ) → a < 254 → Stands w H name a → ⊥
 
--- the call that hands it in to an address, and the way that it goes then
-abbrev pub draft_to : ℕ → ℕ → ℕ → List ℕ → Draft
-draft_to a priority group bytes = record { priority = priority; group = group; to = a; bytes = bytes }
+-- what goes to an address then, the call that hands it in, and its way
+abbrev pub draft_to : ℕ → Errand → Draft
+draft_to a (Message priority group bytes) = record { priority = priority; group = group; to = a; bytes = bytes }
+draft_to a (Request group) = request_for group a
 
 abbrev pub hands_in : ℕ → Errand → ℕ → Result ℕ Refused → Call
-hands_in now (Message priority group bytes) a answer = At now (sent_as (draft_to a priority group bytes) answer)
+hands_in now (Message priority group bytes) a answer = At now (sent_as (draft_to a (Message priority group bytes)) answer)
 hands_in now (Request group) a answer = At now (Ask group a answer)
 
 abbrev pub goes_by : Errand → ℕ → Way
-goes_by (Message priority group bytes) a = way_of (draft_to a priority group bytes)
-goes_by (Request group) a = way.Frame
+goes_by e a = way_of (draft_to a e)
 
 -- how one with so much of its time left is settled by what the controller answers: not at all where there is no room, nor where that
 -- holds no address itself (J1939-81, 4.2.2), unless nothing is left
@@ -127,7 +128,7 @@ abbrev pub left_by : ℕ → Result Token Refused → ℕ
 left_by left (Err why.NoAddress) = left
 left_by left _ = patience
 
--- what a turn does about one, behind this history: its calls, what it is afterwards, and how it is settled, if it is. Where its NAME holds
+-- what a take does about one, behind this history: its calls, what it is afterwards, and how it is settled, if it is. Where its NAME holds
 -- an address it is handed in to that, and what the controller answers says the rest
 pub data Does (w : Who) (H : List Call) (now : ℕ) (o : Letter) : List Call → Letter → Option Settled → Type 0 where
   handed_in : (a : ℕ) (answer : Result Token Refused) → Stands w H o.name a → IfOk answer (λ token. token.way ≡ goes_by o.errand a)
@@ -140,12 +141,13 @@ pub record IsMet (now : ℕ) (o after : Letter) (settled : Option Settled) (old 
   pub does : (w : Who) (H : List Call) → Is w H old → Does w H now o calls after settled
   pub leads : LeadsOn calls old new
 
--- what a turn did about one
+-- what a take did about one, and the frame that it took then
 pub record Deed : Type 0 where
   pub letter : Letter
   pub calls : List Call
   pub after : Letter
   pub settled : Option Settled
+  pub frame : Option FrameRecord
 
 abbrev pub numbered : ℕ → Option Settled → Option (ℕ × Settled)
 numbered number how = option_map (λ s. (number, s)) how
@@ -153,7 +155,8 @@ numbered number how = option_map (λ s. (number, s)) how
 abbrev pub ends : Option Settled → ℕ → List (ℕ × Settled)
 ends how number = listed (numbered number how)
 
--- of deeds, the newest first: whose they are, who stays, how the others were settled, and all calls, the newest first
+-- of deeds, the newest first: whose they are, who stays, how the others were settled, the frame that was taken last, if one was; and all
+-- calls, the newest first: none was due before
 abbrev pub letters_of : List Deed → List Letter
 letters_of [] = []
 letters_of (d ∷ ds) = letters_of ds ++ d.letter ∷ []
@@ -166,19 +169,31 @@ abbrev pub settled_of : List Deed → List (ℕ × Settled)
 settled_of [] = []
 settled_of (d ∷ ds) = settled_of ds ++ ends d.settled d.letter.number
 
-abbrev pub calls : List Deed → List Call
-calls [] = []
-calls (d ∷ ds) = d.calls ++ calls ds
+abbrev pub last_frame : List Deed → Option FrameRecord
+last_frame [] = None
+last_frame (d ∷ ds) = d.frame
 
--- each was done behind the calls of those before it
+abbrev pub calls : ℕ → List Deed → List Call
+calls now [] = At now (TakeFrame None) ∷ []
+calls now (d ∷ ds) = At now (TakeFrame d.frame) ∷ d.calls ++ calls now ds
+
+-- each was done behind the calls of those before it, where these took no frame
 abbrev pub AreDone : Who → List Call → ℕ → List Deed → Type 0
 AreDone w H now [] = Unit {0}
-AreDone w H now (d ∷ ds) = Does w (calls ds ++ H) now d.letter d.calls d.after d.settled × AreDone w H now ds
+AreDone w H now (d ∷ ds) = Does w (calls now ds ++ H) now d.letter d.calls d.after d.settled × (last_frame ds ≡ None) × AreDone w H now ds
 
--- one deed for each that is kept, the oldest first
-pub record IsTurn (w : Who) (H : List Call) (now : ℕ) (s : OutboxRecord) (ds : List Deed) : Type 0 where
-  pub each : letters_of ds ≡ older now s
+-- one deed for each that is kept, the oldest first, but for the rest, which there is only where a frame was taken
+pub record IsTurn (w : Who) (H : List Call) (now : ℕ) (s : OutboxRecord) (ds : List Deed) (rest : List Letter) : Type 0 where
+  pub each : letters_of ds ++ rest ≡ older now s
   pub does : AreDone w H now ds
+  pub all : last_frame ds ≡ None → rest ≡ []
 
-abbrev pub turned : ℕ → List Deed → OutboxRecord → OutboxRecord
-turned now ds s = record s { moment = now; letters = kept ds; settled = s.settled ++ settled_of ds }
+abbrev pub turned : ℕ → List Deed → List Letter → OutboxRecord → OutboxRecord
+turned now ds rest s = record s { moment = now; letters = rest ++ kept ds; settled = s.settled ++ settled_of ds }
+
+-- the frame that a take answers, and the outbox afterwards: what the controller has due goes first, and nothing else is done; where that
+-- has none, the letters have their turns till a frame is taken
+pub data IsTake (now : ℕ) (s : OutboxRecord) (old new : Controller) : Option FrameRecord → OutboxRecord → Type 0 where
+  due : (f : FrameRecord) → LeadsOn (At now (TakeFrame (Some f)) ∷ []) old new → IsTake now s old new (Some f) s
+  turns : (ds : List Deed) (rest : List Letter) → ((w : Who) (H : List Call) → Is w H old → IsTurn w H now s ds rest)
+      → LeadsOn (calls now ds) old new → IsTake now s old new (last_frame ds) (turned now ds rest s)

@@ -6,23 +6,24 @@ use Rattle.j39_application.specs.Outbox.{Deed, Errand, IsTurn, keeps, kept_anew,
 use Rattle.j39_application.specs.declared.letter.Settled.{Settled}
 use Rattle.j39_application.specs.declared.letter.Settled.TheVariants.{HandedIn, Refused, Gone}
 
--- at a moment something is handed to it for a NAME; a turn was taken; the oldest that was settled is told, if there is one
+-- at a moment something is handed to it for a NAME; by a take letters had their turns, but for the rest; the oldest that was settled is
+-- told, if there is one
 pub data Event : Type 0 where
   Gets : ℕ → ℕ → Errand → Event
-  Turns : ℕ → List Deed → Event
+  Turns : ℕ → List Deed → List Letter → Event
   Tells : Event
 
 abbrev pub after : ℕ → List Event → OutboxRecord
 after boxes [] = none_out boxes
 after boxes (Gets now name e ∷ E) = keeps now name e (after boxes E)
-after boxes (Turns now ds ∷ E) = turned now ds (after boxes E)
+after boxes (Turns now ds rest ∷ E) = turned now ds rest (after boxes E)
 after boxes (Tells ∷ E) = tells (after boxes E)
 
--- each turn did what a turn does, over whatever controller
+-- each did what a take does, over whatever controller
 abbrev pub AreTurns : ℕ → List Event → Type 0
 AreTurns boxes [] = Unit {0}
 AreTurns boxes (Gets now name e ∷ E) = AreTurns boxes E
-AreTurns boxes (Turns now ds ∷ E) = ((w : Who) × (H : List Call) × IsTurn w H now (after boxes E) ds) × AreTurns boxes E
+AreTurns boxes (Turns now ds rest ∷ E) = ((w : Who) × (H : List Call) × IsTurn w H now (after boxes E) ds rest) × AreTurns boxes E
 AreTurns boxes (Tells ∷ E) = AreTurns boxes E
 
 abbrev pub is_handed_in : Settled → Bool
@@ -40,7 +41,7 @@ is_gone (HandedIn token) = false
 is_gone (Refused why) = false
 is_gone Gone = true
 
--- how often one of this number is among those that are kept; among those that were settled so; was settled so by turns; and was told
+-- how often one of this number is among those that are kept; among those that were settled so; was settled so by takes; and was told
 abbrev pub times_kept : ℕ → List Letter → ℕ
 times_kept n os = count_by (λ o. nat_eq n o.number) os
 
@@ -50,13 +51,13 @@ times_among so n xs = count_by (λ x. nat_eq n x.0 && so x.1) xs
 abbrev pub times_settled : (Settled → Bool) → ℕ → List Event → ℕ
 times_settled so n [] = 0
 times_settled so n (Gets now name e ∷ E) = times_settled so n E
-times_settled so n (Turns now ds ∷ E) = times_among so n (settled_of ds) + times_settled so n E
+times_settled so n (Turns now ds rest ∷ E) = times_among so n (settled_of ds) + times_settled so n E
 times_settled so n (Tells ∷ E) = times_settled so n E
 
 abbrev pub times_told : (Settled → Bool) → ℕ → ℕ → List Event → ℕ
 times_told so n boxes [] = 0
 times_told so n boxes (Gets now name e ∷ E) = times_told so n boxes E
-times_told so n boxes (Turns now ds ∷ E) = times_told so n boxes E
+times_told so n boxes (Turns now ds rest ∷ E) = times_told so n boxes E
 times_told so n boxes (Tells ∷ E) = times_among so n (take 1 (after boxes E).settled) + times_told so n boxes E
 
 -- NAME 2 at 128 heard no claim, and NAME 5 is to be asked for group 65259: after a microsecond that waits
@@ -78,7 +79,7 @@ abbrev pub waiting : Letter
 waiting = record (kept_anew 0 5 (Request 65259)) { left = 1249999 }
 
 abbrev pub nobody_there : Deed
-nobody_there = record { letter = waiting; calls = []; after = waiting; settled = None }
+nobody_there = record { letter = waiting; calls = []; after = waiting; settled = None; frame = None }
 
 abbrev pub example : List Event
-example = Turns 2 (nobody_there ∷ []) ∷ Gets 1 5 (Request 65259) ∷ []
+example = Turns 2 (nobody_there ∷ []) [] ∷ Gets 1 5 (Request 65259) ∷ []

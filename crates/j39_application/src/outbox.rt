@@ -1,21 +1,19 @@
-//! Messages and requests to NAMEs: each goes to the address that its NAME holds when it is handed in (J1939-81, 4.2).
+//! Messages and requests to NAMEs: each goes to the address that its NAME holds when its frame is taken (J1939-81, 4.2).
 ghost use Rattle.std.specs.Prelude.{◌≡◌, ◌≤◌, ◌<◌, ◌+◌, ◌++◌, ◌∷◌, List, Option, IfOk, length, slice_get};
 ghost use Rattle.std.specs.Vec.{vec_capacity};
 ghost use Rattle.j39_address.specs.Name.{name_raw};
 ghost use Rattle.j39_frame.specs.Pgn.{pgn_raw};
 ghost use Rattle.j39_frame.specs.Stamp.{stamp_micros};
-ghost use Rattle.j39_node.specs.History.{Call, Who};
-ghost use Rattle.j39_node.specs.Is.{Is};
 ghost use Rattle.j39_application.specs.Boxes.{errand_of};
 ghost use Rattle.j39_application.specs.Kept.{stays};
-ghost use Rattle.j39_application.specs.Outbox.{Deed, IsMet, IsTurn, Letter as Shown, Message, Request, answer, calls, ends, has_room, keeps, none_out, number_of, put, soonest, tells, turned};
+ghost use Rattle.j39_application.specs.Outbox.{IsMet, IsTake, Letter as Shown, Message, Request, answer, ends, has_room, keeps, none_out, number_of, put, soonest, tells};
 ghost use Rattle.j39_application.specs.declared.letter.Settled.{Settled};
 
 use crate::kept::Kept;
 use crate::letter::{Errand, Letter, Posted, Settled};
 use arrayvec::ArrayVec;
 use j39_address::Name;
-use j39_frame::{Pgn, Stamp};
+use j39_frame::{Frame, Pgn, Stamp};
 use j39_node::{Controller, Refused};
 use std::alloc::{AllocError, Global};
 
@@ -87,19 +85,25 @@ impl Outbox {
         self.put(now, name, Errand::Request { group })
     }
 
-    /// Hands in each that is kept, the oldest first, to the address that its NAME holds now (J1939-81, 4.2). What the controller refuses
-    /// as `Full` stays. So does, for 1,250 ms, what has a NAME without address, which then is gone, and what the controller refuses as
-    /// `NoAddress`, having none itself, which then is refused so. They count anew from a turn at which both have one.
-    pub fn turn(&mut self, controller: &mut Controller, now: Stamp)
-        ensures does { (ds : List Deed) × (outbox_of self.new ≡ turned (stamp_micros now) ds (outbox_of self.old))
-            × ((w : Who) (H : List Call) → Is w H controller.old
-            → IsTurn w H (stamp_micros now) (outbox_of self.old) ds × Is w (calls ds ++ H) controller.new) }
+    /// The frame that goes out now: a driver takes all from here. What the controller has due goes first. Where it has none, each that is
+    /// kept, the oldest first, is handed in to the address that its NAME holds now (J1939-81, 4.2), till a frame is due by that. What the
+    /// controller refuses as `Full` stays. So does, for 1,250 ms, what has a NAME without address, which then is gone, and what the
+    /// controller refuses as `NoAddress`, having none itself, which then is refused so. They count anew from a take at which both have one.
+    pub fn take_frame(&mut self, controller: &mut Controller, now: Stamp) -> Option<Frame>
+        ensures takes { IsTake (stamp_micros now) (outbox_of self.old) controller.old controller.new result (outbox_of self.new) }
     {
+        if let Some(due) = controller.take_frame(now) {
+            return Some(due);
+        }
         self.kept.pass(now);
         let count = self.kept.current.len();
         for _ in 0..count {
             self.turn_first(controller, now);
+            if let Some(frame) = controller.take_frame(now) {
+                return Some(frame);
+            }
         }
+        None
     }
 
     /// How one was settled, by its number: each once, in the order in which they were. Its box is free from then. `None` if none is left.
@@ -113,8 +117,8 @@ impl Outbox {
         Some(self.settled.remove(0))
     }
 
-    /// In how many microseconds from the last turn, or the last `send` or `ask` that kept one, the first one's 1,250 ms are over, 0 where
-    /// they are: then a turn is due, as after each message. `None` if none is kept.
+    /// In how many microseconds from the last take that handed one in or answered none, or the last `send` or `ask` that kept one, the
+    /// first one's 1,250 ms are over, 0 where they are: then a take is due. `None` if none is kept.
     pub fn due_in(&self) -> Option<u64>
         ensures { result ≡ soonest (outbox_of self.now).letters }
     {

@@ -1,14 +1,11 @@
 -- What a program in C keeps for NAMEs (J1939-81, 4.2), and its controller.
-use Rattle.std.specs.Prelude.{◌≡◌, ◌++◌, ℕ, ℤ, pos, List, Option, Some, None, Result, Ok, Err, slice_get}
-use Rattle.j39_application.specs.Outbox.{Deed, Errand, IsTurn, answer, calls, keeps, tells, turned}
+use Rattle.std.specs.Prelude.{◌≡◌, ℕ, ℤ, pos, Option, Some, None, Result, Ok, Err, slice_get}
+use Rattle.j39_application.specs.Outbox.{Errand, answer, keeps, tells}
 use Rattle.j39_application.specs.Sending.{coded}
 use Rattle.j39_application.specs.Shown.{outbox_of}
 use Rattle.j39_application.specs.declared.letter.Settled.{Settled}
 use Rattle.j39_application.specs.declared.letter.Settled.TheVariants.{HandedIn, Refused, Gone}
 use Rattle.j39_application.specs.declared.outbox.Outbox.{Outbox}
-use Rattle.j39_node.specs.History.{Call, Who}
-use Rattle.j39_node.specs.Is.{Is}
-use Rattle.j39_node.specs.declared.controller.Controller.{Controller}
 use Rattle.j39_node.specs.declared.kinds.Refused.{Refused as Why}
 use Rattle.j39_c.specs.Controllers.{IsRefusal}
 use Rattle.j39_c.specs.declared.outbox.PlainSettled.{PlainSettled}
@@ -22,13 +19,6 @@ IsNumbered code number (Err why) = IsRefusal why code
 pub record Posts (micros name : ℕ) (errand : Errand) (code : ℤ) (number : ℕ) (old new : Outbox) : Type 0 where
   pub answered : IsNumbered code number (answer errand (outbox_of old))
   pub kept : outbox_of new ≡ keeps micros name errand (outbox_of old)
-
--- each that is kept has its turn: these are its deeds, the newest first
-pub record TakesTurn (micros : ℕ) (old new : Outbox × Controller) : Type 0 where
-  pub deeds : List Deed
-  pub kept : outbox_of new.0 ≡ turned micros deeds (outbox_of old.0)
-  pub does : (w : Who) (H : List Call) → Is w H old.1
-      → IsTurn w H micros (outbox_of old.0) deeds × Is w (calls deeds ++ H) new.1
 
 -- how one was settled: 1 handed in, under this token, 2 refused for good, and why, 3 gone
 abbrev pub IsSettledSo : ℤ → PlainSettled → Settled → Type 0

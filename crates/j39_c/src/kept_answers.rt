@@ -13,7 +13,7 @@ ghost use Rattle.j39_c.specs.Parts.{answering_in, answers_in};
 
 use crate::handed_out::{PlainRequest, put, put_request, request_of};
 use crate::handle::Handle;
-use crate::part::{ask, in_box, open, turn};
+use crate::part::{ask, in_box, open};
 use crate::refusal::Refusal;
 use j39_application::{Answers as Kept, Asked};
 use j39_frame::Stamp;
@@ -95,7 +95,15 @@ pub extern "C" fn j39_answers_turn(
         (kept.new.part, controller.new.part) (λ old new. (result ≡ pos 0) × TakesTurn micros old new) Never }
     ensures answers { Answers 0 (bad_value ∷ no_part ∷ []) result }
 {
-    turn!(alloc, kept, controller, micros, Answering)
+    let Some(now) = Stamp::new(micros) else {
+        return Refusal::BadValue.code();
+    };
+    ask!(alloc, kept, Answering(answers) => {
+        ask!(alloc, controller, Controlling(held) => {
+            answers.turn(held, now);
+            0
+        })
+    })
 }
 
 /// In how many microseconds the 200 ms of the first one are over: 1 and the time, or 0 where none is open; -2 where the handle holds no

@@ -1,20 +1,22 @@
 //! Messages and requests to NAMEs, kept till their NAMEs hold addresses (J1939-81, 4.2).
 ghost use Rattle.std.specs.Prelude.{⊤, ◌≡◌, ◌<◌, ◌^◌, ◌∷◌, [], Some, pos};
-ghost use Rattle.j39_application.specs.Outbox.{Message, Request, none_out, soonest};
+ghost use Rattle.j39_application.specs.Outbox.{IsTake, Message, Request, none_out, soonest};
 ghost use Rattle.j39_application.specs.Shown.{outbox_of};
 ghost use Rattle.j39_c.specs.Calls.{Answers, Asks, Fills, Never, Opens, Tries};
-ghost use Rattle.j39_c.specs.Codes.{IsDone, bad_value, full, in_use, no_memory, no_part, told};
+ghost use Rattle.j39_c.specs.Codes.{IsDone, bad_value, full, in_use, no_memory, no_part, sent, told};
 ghost use Rattle.j39_c.specs.Controllers.{IsAt};
-ghost use Rattle.j39_c.specs.Outboxes.{IsNumbered, IsSettled, Posts, TakesTurn, TellsSettled};
+ghost use Rattle.j39_c.specs.Outboxes.{IsNumbered, IsSettled, Posts, TellsSettled};
 ghost use Rattle.j39_c.specs.Parts.{outbox_in, posting_in};
 
+use crate::can::{CanFrame, put_frame};
 use crate::handed_out::{put, refused};
 use crate::handle::Handle;
 use crate::offering::group_and_moment;
-use crate::part::{ask, in_box, open, turn};
+use crate::part::{ask, in_box, open};
 use crate::refusal::Refusal;
 use j39_address::Name;
 use j39_application::{Outbox, Settled};
+use j39_frame::Stamp;
 use j39_node::Refused;
 use std::alloc::Global;
 
@@ -91,21 +93,28 @@ pub extern "C" fn j39_outbox_ask(
     ask!(alloc, outbox, Posting(kept) => put_number(kept.ask(now, Name::new(name), group), number))
 }
 
-/// The turn of each that is kept, the oldest first: it is handed in to a controller, to the address that its NAME holds; what finds no
-/// room stays, and what has a NAME without address, for 1,250 ms: 0. -1 for a moment of 10^16 microseconds and above, -2 where a handle
-/// holds no outbox or no controller.
+/// Takes the frame that goes out now: what a controller has due; else, till a frame is due by that, each that is kept, the oldest first,
+/// is handed in to it, to the address that its NAME holds: 1 where `out` is, else 0. -1 for a moment of 10^16 microseconds and above, -2
+/// where a handle holds no outbox or no controller.
 #[unsafe(no_mangle)]
-pub extern "C" fn j39_outbox_turn(
+pub extern "C" fn j39_outbox_take_frame(
     alloc: Global,
     outbox: &mut Handle,
     controller: &mut Handle,
     micros: u64,
+    out: &mut CanFrame,
 ) -> i32
     ensures asks { Asks posting_in (micros < 10 ^ 16) (outbox.old.part, controller.old.part) result
-        (outbox.new.part, controller.new.part) (λ old new. (result ≡ pos 0) × TakesTurn micros old new) Never }
-    ensures answers { Answers 0 (bad_value ∷ no_part ∷ []) result }
+        (outbox.new.part, controller.new.part) (λ old new. IsTake micros (outbox_of old.0) old.1 new.1 (sent result out.new) (outbox_of new.0)) Never }
+    ensures answers { Answers 1 (bad_value ∷ no_part ∷ []) result }
+    ensures fills { Fills (pos 1 ∷ []) result (out.new ≡ out.old) }
 {
-    turn!(alloc, outbox, controller, micros, Posting)
+    let Some(now) = Stamp::new(micros) else {
+        return Refusal::BadValue.code();
+    };
+    ask!(alloc, outbox, Posting(kept) => {
+        ask!(alloc, controller, Controlling(held) => put_frame(kept.take_frame(held, now), out))
+    })
 }
 
 /// Takes how the next was settled, each once: 0 where none is left; else it is in `out`: 1 it was handed in, under a token, 2 the

@@ -62,22 +62,5 @@ macro_rules! open {
     }};
 }
 
-/// The turn of what waits in a part of this kind, over the controller of another handle: 0; -1 for a moment out of its range, -2
-/// where a handle holds no such part.
-macro_rules! turn {
-    ($alloc:ident, $handle:ident, $controller:ident, $micros:ident, $kind:ident) => {{
-        let Some(now) = j39_frame::Stamp::new($micros) else {
-            return $crate::refusal::Refusal::BadValue.code();
-        };
-        ask!($alloc, $handle, $kind(kept) => {
-            ask!($alloc, $controller, Controlling(held) => {
-                kept.turn(held, now);
-                0
-            })
-        })
-    }};
-}
-
 pub(crate) use ask;
 pub(crate) use open;
-pub(crate) use turn;

@@ -1,11 +1,12 @@
-//! What goes to a NAME: to the address that it holds when it is handed in, or nowhere, if it, or the controller, holds none for 1,250 ms.
-use crate::steps::{self, Step, controller};
-use Post::{Asks, Does, HandsIn, IsDue, Sends, Settles, Turns};
-use Step::{Again, Ends, EndsAsk, Gives, Hears, Ticks};
+//! What goes to a NAME: to the address that it holds when its frame is taken, or nowhere, if it, or the controller, holds none for
+//! 1,250 ms.
+use crate::steps::{self, Step, controller, is_line};
+use Post::{Asks, Does, Gives, HandsIn, IsDue, Sends, Settles};
+use Step::{Again, Ends, EndsAsk, EndsTransfer, Hears, Ticks};
 use j39_address::Name;
 use j39_application::{Outbox, Settled, Token, Way};
 use j39_frame::{Pgn, Stamp};
-use j39_node::{AskEnding, Controller, Ending, Refused};
+use j39_node::{AskEnding, Controller, Ending, Refused, TransferEnding};
 use std::alloc::Global;
 use std::test::Fail;
 
@@ -17,8 +18,8 @@ enum Post {
     Sends(u64, u64, &'static [u8], Result<u64, Refused>),
     /// At this moment it is to ask this NAME for group 65259: its number, or why not.
     Asks(u64, u64, Result<u64, Refused>),
-    /// It has a turn at this moment.
-    Turns(u64),
+    /// At this moment it gives the frame of this line, or none.
+    Gives(u64, Option<&'static str>),
     /// It tells that the one of this number was handed in, this way, behind so many.
     HandsIn(u64, Way, u64),
     /// It tells this of one that was settled.
@@ -28,41 +29,98 @@ enum Post {
 }
 
 /// The controller of NAME 2 claims 128, and holds it then.
-const CLAIMS: Post = Does(Gives(
+const CLAIMS: Post = Gives(
     0,
     Some("(0000000000.000000) can0 18EEFF80#0200000000000000"),
-));
+);
 
 const HOLDS: Post = Does(Ticks(250_000));
+
+/// NAME 5 claims 11.
+const COMES: Post = Does(Hears("(0.300000) can0 18EEFF0B#0500000000000000"));
 
 /// NAME 5 comes to 11 a microsecond before its time is over, moves to 12, and gets what is for it at both; also in packets.
 static COMES_AND_MOVES: &[Post] = &[
     CLAIMS,
     HOLDS,
     Sends(300_000, 5, &[1, 2, 3], Ok(0)),
-    Turns(300_000),
+    Gives(300_000, None),
     IsDue(Some(1_250_000)),
-    Turns(1_549_999),
+    Gives(1_549_999, None),
     IsDue(Some(1)),
     Settles(None),
-    Does(Gives(1_549_999, None)),
     Does(Hears("(1.550000) can0 18EEFF0B#0500000000000000")),
-    Turns(1_550_000),
+    Gives(1_550_000, Some("(0000000001.550000) can0 18EF0B80#010203")),
     HandsIn(0, Way::Frame, 0),
     IsDue(None),
-    Does(Gives(1_550_000, Some("(0000000001.550000) can0 18EF0B80#010203"))),
     Does(Hears("(1.600000) can0 18EEFF0C#0500000000000000")),
     Sends(1_600_000, 5, &[4], Ok(1)),
     Sends(1_600_000, 5, &[1, 2, 3, 4, 5, 6, 7, 8, 9], Ok(2)),
-    Turns(1_600_000),
+    Gives(1_600_000, Some("(0000000001.600000) can0 18EF0C80#04")),
     HandsIn(1, Way::Frame, 1),
-    HandsIn(2, Way::Transfer, 0),
     Settles(None),
-    Does(Gives(1_600_000, Some("(0000000001.600000) can0 18EF0C80#04"))),
-    Does(Gives(
+    Gives(
         1_600_000,
         Some("(0000000001.600000) can0 1CEC0C80#10090002FF00EF00"),
-    )),
+    ),
+    HandsIn(2, Way::Transfer, 0),
+    Gives(1_600_000, None),
+];
+
+/// NAME 5 moves between what is kept and taken, and between two takes: each frame goes where it is then. What the controller has due goes
+/// first, and till then nothing is handed in, nor does the time of what is kept pass.
+static MOVES_BETWEEN: &[Post] = &[
+    CLAIMS,
+    HOLDS,
+    COMES,
+    Sends(300_000, 5, &[1], Ok(0)),
+    Sends(300_000, 5, &[2], Ok(1)),
+    Asks(300_000, 5, Ok(2)),
+    Does(Step::Sends(300_000, 255, &[9], Ok(0))),
+    Does(Hears("(0.300001) can0 18EEFF0C#0500000000000000")),
+    Gives(300_001, Some("(0000000000.300001) can0 18FEF180#09")),
+    Settles(None),
+    IsDue(Some(1_250_000)),
+    Gives(300_002, Some("(0000000000.300002) can0 18EF0C80#01")),
+    HandsIn(0, Way::Frame, 1),
+    Settles(None),
+    IsDue(Some(1_249_998)),
+    Gives(300_002, Some("(0000000000.300002) can0 18EF0C80#02")),
+    HandsIn(1, Way::Frame, 2),
+    Does(Hears("(0.300003) can0 18EEFF0D#0500000000000000")),
+    Gives(300_003, Some("(0000000000.300003) can0 18EA0D80#EBFE00")),
+    HandsIn(2, Way::Frame, 3),
+    Gives(300_003, None),
+    IsDue(None),
+];
+
+/// NAME 5 leaves 11 behind the RTS of one message in packets, and in the midst of another to 12: both end, and nothing goes on.
+static LEAVES_PACKETS: &[Post] = &[
+    CLAIMS,
+    HOLDS,
+    COMES,
+    Sends(300_000, 5, &[1, 2, 3, 4, 5, 6, 7, 8, 9], Ok(0)),
+    Gives(
+        300_000,
+        Some("(0000000000.300000) can0 1CEC0B80#10090002FF00EF00"),
+    ),
+    HandsIn(0, Way::Transfer, 0),
+    Does(Hears("(0.310000) can0 18EEFF0C#0500000000000000")),
+    Does(EndsTransfer(Some((0, TransferEnding::Gone)))),
+    Sends(310_000, 5, &[1, 2, 3, 4, 5, 6, 7, 8, 9], Ok(1)),
+    Gives(
+        310_000,
+        Some("(0000000000.310000) can0 1CEC0C80#10090002FF00EF00"),
+    ),
+    HandsIn(1, Way::Transfer, 1),
+    Does(Hears("(0.320000) can0 1CEC800C#110201FFFF00EF00")),
+    Gives(
+        320_000,
+        Some("(0000000000.320000) can0 1CEB0C80#0101020304050607"),
+    ),
+    Does(Hears("(0.320000) can0 18EEFF0D#0500000000000000")),
+    Gives(320_000, None),
+    Does(EndsTransfer(Some((1, TransferEnding::Gone)))),
 ];
 
 /// NAME 9 never comes: one box is full till that is told. A moment that goes back is no time.
@@ -71,92 +129,92 @@ static NEVER_COMES: &[Post] = &[
     HOLDS,
     Sends(300_000, 9, &[1], Ok(0)),
     Sends(300_000, 9, &[2], Err(Refused::Full)),
-    Turns(200_000),
+    Gives(200_000, None),
     IsDue(Some(1_250_000)),
-    Turns(1_449_999),
+    Gives(1_449_999, None),
     IsDue(Some(1)),
-    Turns(1_450_000),
+    Gives(1_450_000, None),
     IsDue(None),
     Sends(1_450_000, 9, &[2], Err(Refused::Full)),
     Settles(Some((0, Settled::Gone))),
     Settles(None),
     Sends(1_450_000, 9, &[2], Ok(1)),
-    Does(Gives(1_450_000, None)),
 ];
 
 /// NAME 5 at 11 is asked twice: the second request waits till the first has ended, which NAME 5's answer does; its 1,250 ms count anew.
 static IS_ASKED: &[Post] = &[
     CLAIMS,
     HOLDS,
-    Does(Hears("(0.300000) can0 18EEFF0B#0500000000000000")),
+    COMES,
     Asks(300_000, 5, Ok(0)),
     Asks(300_000, 5, Ok(1)),
-    Turns(300_000),
+    Gives(300_000, Some("(0000000000.300000) can0 18EA0B80#EBFE00")),
     HandsIn(0, Way::Frame, 0),
+    Gives(1_000_000, None),
     Settles(None),
-    Turns(1_000_000),
     IsDue(Some(1_250_000)),
-    Does(Gives(1_000_000, Some("(0000000001.000000) can0 18EA0B80#EBFE00"))),
     Does(Hears("(1.010000) can0 18FEEB0B#0102030405060708")),
     Does(EndsAsk(Some((0, AskEnding::Answered)))),
     Does(Ends(Some((0, Ending::Done)))),
-    Turns(1_020_000),
+    Gives(1_020_000, Some("(0000000001.020000) can0 18EA0B80#EBFE00")),
     HandsIn(1, Way::Frame, 1),
-    Does(Gives(1_020_000, Some("(0000000001.020000) can0 18EA0B80#EBFE00"))),
 ];
 
-/// NAME 5 is at 11, and the controller's claim is won 250 ms after it went out: at the first turn from then on it is handed in.
+/// NAME 5 is at 11, and the controller's claim is won 250 ms after it went out: from then on it is handed in.
 static COMES_EARLY: &[Post] = &[
     CLAIMS,
     Does(Hears("(0.100000) can0 18EEFF0B#0500000000000000")),
     Sends(100_000, 5, &[1, 2, 3], Ok(0)),
     Sends(100_000, 5, &[1, 2, 3, 4, 5, 6, 7, 8, 9], Ok(1)),
-    Turns(100_000),
+    Gives(100_000, None),
     IsDue(Some(1_250_000)),
-    Turns(249_999),
+    Gives(249_999, None),
     IsDue(Some(1_100_001)),
     Settles(None),
-    Does(Gives(249_999, None)),
-    Turns(250_000),
+    Gives(250_000, Some("(0000000000.250000) can0 18EF0B80#010203")),
     HandsIn(0, Way::Frame, 0),
-    HandsIn(1, Way::Transfer, 0),
-    IsDue(None),
-    Does(Gives(250_000, Some("(0000000000.250000) can0 18EF0B80#010203"))),
-    Does(Gives(
+    Gives(
         250_000,
         Some("(0000000000.250000) can0 1CEC0B80#10090002FF00EF00"),
-    )),
+    ),
+    HandsIn(1, Way::Transfer, 0),
+    IsDue(None),
 ];
 
 /// It claims anew, and what was handed in then waits for that as well: the 250 ms are over before the 1,250 ms.
 static CLAIMS_ANEW: &[Post] = &[
     CLAIMS,
     HOLDS,
-    Does(Hears("(0.300000) can0 18EEFF0B#0500000000000000")),
+    COMES,
     Does(Again(1_000_000)),
-    Does(Gives(
+    Asks(1_000_000, 5, Ok(0)),
+    Gives(
         1_000_000,
         Some("(0000000001.000000) can0 18EEFF80#0200000000000000"),
-    )),
-    Asks(1_000_000, 5, Ok(0)),
-    Turns(1_249_999),
+    ),
+    Gives(1_249_999, None),
     Settles(None),
     IsDue(Some(1_000_001)),
-    Turns(1_250_000),
+    Gives(1_250_000, Some("(0000000001.250000) can0 18EA0B80#EBFE00")),
     HandsIn(0, Way::Frame, 0),
-    Does(Gives(1_250_000, Some("(0000000001.250000) can0 18EA0B80#EBFE00"))),
 ];
 
-/// The controller's claim never goes out: NAME 5 at 11 gets nothing, and after 1,250 ms that is told, once.
-static NEVER_CLAIMS: &[Post] = &[
+/// The controller's address is lost: NAME 5 at 11 gets nothing, and after 1,250 ms that is told, once.
+static LOSES: &[Post] = &[
+    CLAIMS,
+    Does(Hears("(0.100000) can0 18EEFF80#0000000000000000")),
     Does(Hears("(0.100000) can0 18EEFF0B#0500000000000000")),
     Sends(100_000, 5, &[1], Ok(0)),
-    Turns(100_000),
+    Gives(
+        100_000,
+        Some("(0000000000.100000) can0 18EEFFFE#0200000000000000"),
+    ),
+    Gives(100_000, None),
     Settles(None),
-    Turns(1_349_999),
+    Gives(1_349_999, None),
     IsDue(Some(1)),
     Settles(None),
-    Turns(1_350_000),
+    Gives(1_350_000, None),
     IsDue(None),
     Settles(Some((0, Settled::Refused(Refused::NoAddress)))),
     Settles(None),
@@ -173,9 +231,8 @@ fn does(outbox: &mut Outbox, node: &mut Controller, step: &Post) -> Option<bool>
         Asks(micros, name, wanted) => {
             outbox.ask(Stamp::new(*micros)?, Name::new(*name), Pgn::new(65_259)?) == *wanted
         }
-        Turns(micros) => {
-            outbox.turn(node, Stamp::new(*micros)?);
-            true
+        Gives(micros, wanted) => {
+            is_line(outbox.take_frame(node, Stamp::new(*micros)?), *wanted)?
         }
         HandsIn(number, way, token) => {
             let settled = Settled::HandedIn(Token::new(*way, *token));
@@ -201,6 +258,13 @@ fn wrong_post(alloc: Global, boxes: u8, steps: &[Post]) -> Result<Option<usize>,
 #[test]
 fn it_goes_where_its_name_is(rt: HostRuntime) -> Result<(), Fail> {
     assert_eq!(rt; wrong_post(rt.alloc(), 2, COMES_AND_MOVES)?, None);
+    assert_eq!(rt; wrong_post(rt.alloc(), 3, MOVES_BETWEEN)?, None);
+    Ok(())
+}
+
+#[test]
+fn in_packets_it_ends_where_its_name_leaves(rt: HostRuntime) -> Result<(), Fail> {
+    assert_eq!(rt; wrong_post(rt.alloc(), 1, LEAVES_PACKETS)?, None);
     Ok(())
 }
 
@@ -225,7 +289,7 @@ fn it_waits_for_the_own_address(rt: HostRuntime) -> Result<(), Fail> {
 
 #[test]
 fn it_is_refused_without_own_address(rt: HostRuntime) -> Result<(), Fail> {
-    assert_eq!(rt; wrong_post(rt.alloc(), 1, NEVER_CLAIMS)?, None);
+    assert_eq!(rt; wrong_post(rt.alloc(), 1, LOSES)?, None);
     Ok(())
 }
 

@@ -5,7 +5,7 @@ use Rattle.j39_application.proofs.outbox_laws.an_example.Goals as goal
 
 pub returns-clause-turns : goal.returns-clause-turns
 returns-clause-turns c = (
-  (alone, [], record { each = refl; does = (waits (λ a l h. h) (omega arith), tt) }),
+  (alone, [], record { each = refl; does = (waits (λ a l h. h) (omega arith), refl, tt); all = λ e. refl }),
   tt,
 )
 
