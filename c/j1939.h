@@ -435,7 +435,7 @@ typedef struct {
 #define J1939_RECEIVER_SIZE ((size_t)1984)
 #define J1939_SENDER_SIZE(bytes) (192 + (size_t)(bytes))
 #define J1939_CONTROLLER_SIZE(broadcasts, sessions, transfers) \
-    (7296 + 1888 * (size_t)(broadcasts) + 1936 * (size_t)(sessions) + 1952 * (size_t)(transfers))
+    (5520 + 1888 * (size_t)(broadcasts) + 1936 * (size_t)(sessions) + 1952 * (size_t)(transfers) + 1808 * (size_t)((transfers) != 0))
 #define J1939_ANSWERS_SIZE(boxes) (160 + 1864 * (size_t)(boxes))
 #define J1939_OUTBOX_SIZE(boxes) (192 + 1888 * (size_t)(boxes))
 /* clang-format on */

@@ -16,5 +16,5 @@ fn memory_of_the_parts(rt: HostRuntime) {
         size_of::<Receiver>(),
         size_of::<Controller>(),
     ];
-    assert_eq!(rt; met, [2_312, 2_288, 4_336, 40, 64, 72, 40, 7_160]);
+    assert_eq!(rt; met, [2_312, 2_288, 4_336, 40, 64, 72, 40, 5_384]);
 }
