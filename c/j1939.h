@@ -971,8 +971,8 @@ typedef struct {
  * @return 0 to 3, J1939_NO_PART */
 int32_t j1939_outbox_take_settled(j1939_outbox *outbox, j1939_settled *settled);
 
-/** In how many microseconds the first 1250 ms are over, from the last .._take_frame that handed one in or answered 0, or the last .._send or .._ask
- * that kept one: 1 and the time, 0 of which is left where they are over; or 0 where none is kept.
+/** In how many microseconds the first 1250 ms are over, from the last .._take_frame that handed one in or answered 0, or the last .._send
+ * or .._ask that kept one: 1 and the time, 0 of which is left where they are over; or 0 where none is kept.
  * @return 0, 1, J1939_NO_PART */
 int32_t j1939_outbox_due_in(const j1939_outbox *outbox, uint64_t *micros);
 

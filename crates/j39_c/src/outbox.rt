@@ -1,5 +1,6 @@
 //! Messages and requests to NAMEs, kept till their NAMEs hold addresses (J1939-81, 4.2).
 ghost use Rattle.std.specs.Prelude.{⊤, ◌≡◌, ◌<◌, ◌^◌, ◌∷◌, [], Some, pos};
+ghost use Rattle.j39_frame.specs.Stamp.{stamp_micros};
 ghost use Rattle.j39_application.specs.Outbox.{IsTake, Message, Request, none_out, soonest};
 ghost use Rattle.j39_application.specs.Shown.{outbox_of};
 ghost use Rattle.j39_c.specs.Calls.{Answers, Asks, Fills, Never, Opens, Tries};
@@ -17,7 +18,7 @@ use crate::refusal::Refusal;
 use j39_address::Name;
 use j39_application::{Outbox, Settled};
 use j39_frame::Stamp;
-use j39_node::Refused;
+use j39_node::{Controller, Refused};
 use std::alloc::Global;
 
 /// How what was kept for a NAME was settled, `j1939_settled` of the header.
@@ -113,7 +114,7 @@ pub extern "C" fn j39_outbox_take_frame(
         return Refusal::BadValue.code();
     };
     ask!(alloc, outbox, Posting(kept) => {
-        ask!(alloc, controller, Controlling(held) => put_frame(kept.take_frame(held, now), out))
+        ask!(alloc, controller, Controlling(held) => put_taken(kept, held, now, out))
     })
 }
 
@@ -158,6 +159,21 @@ fn put_number(answer: Result<u64, Refused>, number: &mut u64) -> i32
         }
         Err(why) => refused(why),
     }
+}
+
+/// Takes the frame that goes out now.
+fn put_taken(
+    kept: &mut Outbox,
+    controller: &mut Controller,
+    now: Stamp,
+    out: &mut CanFrame,
+) -> i32
+    ensures done { IsDone result }
+    ensures takes { IsTake (stamp_micros now) (outbox_of kept.old) controller.old controller.new (sent result out.new) (outbox_of kept.new) }
+    ensures answers { Answers 1 [] result }
+    ensures fills { Fills (pos 1 ∷ []) result (out.new ≡ out.old) }
+{
+    put_frame(kept.take_frame(controller, now), out)
 }
 
 /// Takes how the next was settled.
