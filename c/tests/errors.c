@@ -919,12 +919,15 @@ static void controllers(void) {
     setup.served = no_group, setup.served_count = 1;
     EXPECT(j1939_controller_new(&controller, &setup) == J1939_BAD_VALUE);
     setup.served = served, setup.served_count = 16;
-    /* Its own block, four for each kind of box, one of them the box, and the box of its own broadcast: each is refused in turn. */
-    for (long granted = 0; granted < 14; granted++) {
+    /* Each of its 16 blocks is refused in turn, one of them its own broadcast's. */
+    for (long granted = 0; granted < 16; granted++) {
         allowed = granted;
         EXPECT(j1939_controller_new(&controller, &setup) == J1939_NO_MEMORY && !controller.handle.part);
     }
+    allowed = 16;
+    EXPECT(j1939_controller_new(&controller, &setup) == 0 && allowed == 0);
     allowed = -1;
+    EXPECT(j1939_controller_close(&controller) == 0);
     EXPECT(j1939_listener_new(&foreign) == 0);
     no_controller(&controller);
     no_controller((j1939_controller *)&foreign);

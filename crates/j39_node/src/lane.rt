@@ -80,6 +80,7 @@ impl Lane {
     ghost use Rattle.j39_node.specs.Is.{broadcast_end, lane_of, opened, packet_by, stamped, who_of};
 
     /// No broadcast was accepted. It takes memory for one, where there is any for transfers.
+    // As `Hearing::new`, it would want stack of its caller for all that a controller is made of.
     #[inline(never)]
     pub(crate) fn new(alloc: Global, transfers: u8) -> Result<Lane, AllocError>
         ensures { IfOk result (λ l. (w : Who) → lane_of w l ≡ record { current = None; count = 0; next_token = 0; boxes = min 1 transfers }) }
