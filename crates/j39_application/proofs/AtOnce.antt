@@ -1,10 +1,10 @@
 -- A message of one frame that is accepted where nothing was due is the next that is taken.
-use Rattle.std.proofs.Common.{[], if◌then◌else◌, ◌&&◌, ◌+◌, ◌++◌, ◌-◌, ◌∙◌, ◌∷◌, ◌≡◌, ◌||◌, ap, append_assoc, arith, Bool, Err, false, length, List, nat_eq, None, not, Ok, Option, refl, Result, slice_get, Some, subst, suc, sym, true, ℕ}
+use Rattle.std.proofs.Common.{[], if◌then◌else◌, ◌&&◌, ◌+◌, ◌++◌, ◌-◌, ◌∙◌, ◌∷◌, ◌≡◌, ◌||◌, ap, append_assoc, arith, Bool, Err, false, length, List, nat_eq, None, not, Ok, Option, refl, Result, slice_get, Some, subst, sym, true, ℕ}
 use Rattle.std.proofs.lemmas.Bool.{false_from_ne_true}
 use Rattle.std.proofs.lemmas.Option.{none-some}
 use Rattle.std.specs.Option.{option_map}
 use Rattle.j39_frame.specs.Frame.{FrameRecord}
-use Rattle.j39_node.proofs.Common.{all_replies, claim_due, claim_goes, gives_way, has_packets, lt-ltb, next_acknowledgment, next_packet, next_transfer, other}
+use Rattle.j39_node.proofs.Common.{all_replies, claim_due, gives_way, has_packets, lt-ltb, next_acknowledgment, next_packet, next_transfer, other}
 use Rattle.j39_node.proofs.LawLemmas.{sent_within}
 use Rattle.j39_node.proofs.PromptLaws.{answered_from}
 use Rattle.j39_node.proofs.QueueLemmas.{get_last, length_one_more, mapped_some}
@@ -15,14 +15,12 @@ use Rattle.j39_node.specs.History.Address.{Claimed, Lost, NotClaimed}
 use Rattle.j39_node.specs.History.Call.{At}
 use Rattle.j39_node.specs.Is.{AreAnswered, Is, is_overdue, next_frame, packet_by, ready, stamped, turn_frame, turn_of}
 use Rattle.j39_node.specs.Reception.{yields}
-use Rattle.j39_node.specs.Transfers.{age, carried_by, clock, transfers_at}
 use Rattle.j39_node.specs.declared.controller.Controller.{Controller}
 use Rattle.j39_node.specs.declared.kinds.Refused.{Refused}
 use Rattle.j39_node.specs.declared.kinds.Refused.TheVariants as why
-use Rattle.j39_transfers.specs.Transfers.{said}
-use Rattle.j39_application.specs.Outbox.{AreDone, calls, Deed, Does, draft_to, Errand, goes_by, hands_in, IsTurn, last_frame, Letter, Message as Carries, OutboxRecord, Request, settled_by, Stands}
+use Rattle.j39_application.specs.Outbox.{AreDone, calls, Deed, Does, draft_to, Errand, goes_by, hands_in, IsTurn, last_frame, Letter, Message as Carries, OutboxRecord, Request, Stands}
 use Rattle.j39_application.specs.Outbox.Does.{gone, handed_in, waits}
-use Rattle.j39_application.specs.Sending.{numbers, sent_by}
+use Rattle.j39_application.specs.Sending.{sent_by}
 use Rattle.j39_application.specs.declared.letter.Settled.{Settled}
 use Rattle.j39_application.specs.declared.letter.Settled.TheVariants as settled
 use Rattle.j39_application.specs.declared.sending.Token.{Token}
@@ -49,7 +47,7 @@ module _ (w : Who) (K : List Call) (now : ℕ) where
   abbrev G : List Call
   G = At now (TakeFrame None) ∷ K
 
-  pub next_with : (L : List Call) (x : ℕ × Message) → claim_due w L now ≡ false → holds w L now ≡ true → slice_get (due w L) (length (acknowledged L)) ≡ None
+  next_with : (L : List Call) (x : ℕ × Message) → claim_due w L now ≡ false → holds w L now ≡ true → slice_get (due w L) (length (acknowledged L)) ≡ None
       → slice_get (all_replies w L) 0 ≡ None → next_packet w L now ≡ None → accepted w L ≡ accepted w K ++ x ∷ [] → reached L ≡ length (accepted w K)
       → next_frame w L now ≡ Some (now, x.1)
   next_with L x c h a r p e n =
@@ -101,7 +99,7 @@ module _ (w : Who) (K : List Call) (now : ℕ) where
       → (f : FrameRecord) × (frame ≡ Some f) × (message_of f ≡ m)
   taken L m frame e n = let z = mapped_some stamped frame (now, m) (e ∙ n) in (z.0, z.1, ap (λ (y : ℕ × Message). y.1) z.2)
 
-  pub at_once : (e : Errand) (a k : ℕ) (frame : Option FrameRecord) → goes_by e a ≡ way.Frame
+  at_once : (e : Errand) (a k : ℕ) (frame : Option FrameRecord) → goes_by e a ≡ way.Frame
       → AreAnswered w (At now (TakeFrame frame) ∷ hands_in now e a (Ok k) ∷ G)
       → (f : FrameRecord) × (frame ≡ Some f) × (message_of f ≡ message_from w (draft_to a e))
   at_once (Carries priority group bytes) a k frame y h =

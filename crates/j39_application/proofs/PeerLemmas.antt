@@ -1,5 +1,5 @@
 -- What is told of peers, one after another.
-use Rattle.std.proofs.Common.{◌≡◌, ◌≢◌, ◌<◌, ◌≤◌, ◌↔◌, ◌∷◌, ℕ, List, Option, Some, None, length, get_or, replicate, sym, ap, ◌∙◌, subst, inl, inr, arith, true, false, nat_eq, nat_le, leb-true, le-leb, if◌then◌else◌}
+use Rattle.std.proofs.Common.{◌≡◌, ◌<◌, ◌≤◌, ◌↔◌, ◌∷◌, ℕ, List, Option, Some, None, length, get_or, replicate, sym, ap, ◌∙◌, subst, inl, inr, arith, true, false, nat_le, leb-true, le-leb}
 use Rattle.std.proofs.lemmas.Bool.{cases_lt, cases_order}
 use Rattle.std.proofs.lemmas.List.{get_or-replicate, get_or_past, length-replicate}
 use Rattle.j39_address.specs.Claim.{Claim}

@@ -1,5 +1,5 @@
 -- Two tokens have one code only if they are one.
-use Rattle.std.proofs.Common.{◌≡◌, ◌<◌, ◌+◌, ◌*◌, ◌%◌, ◌^◌, ℕ, refl, arith}
+use Rattle.std.proofs.Common.{◌≡◌, ◌<◌, ◌^◌, ℕ, refl, arith}
 use Rattle.j39_application.specs.Sending.{coded}
 use Rattle.j39_application.specs.declared.sending.Way.{Way}
 use Rattle.j39_application.specs.declared.sending.Way.TheVariants as way

@@ -19,7 +19,6 @@ use Rattle.j39_application.specs.declared.letter.Settled.{Settled}
 use Rattle.j39_application.specs.declared.letter.Settled.TheVariants as settled
 use Rattle.j39_application.specs.declared.sending.Token.{Token}
 use Rattle.j39_application.specs.declared.sending.Way.{Way}
-use Rattle.j39_application.specs.declared.sending.Way.TheVariants as way
 
 -- what goes to a NAME: a message of this priority, group and bytes, or a request for this group
 pub data Errand : Type 0 where

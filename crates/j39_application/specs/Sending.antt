@@ -1,5 +1,5 @@
 -- What is handed to a controller, and told by it, in one call each for all ways that a message goes.
-use Rattle.std.specs.Prelude.{◌≡◌, ◌+◌, ◌*◌, ◌%◌, ◌^◌, ◌∷◌, [], ℕ, nat_eq, nat_lt, Option, Some, None, List, Result, length, if◌then◌else◌}
+use Rattle.std.specs.Prelude.{◌+◌, ◌*◌, ◌%◌, ◌^◌, ◌∷◌, [], ℕ, nat_eq, nat_lt, Option, Some, None, List, Result, length, if◌then◌else◌}
 use Rattle.std.specs.Result.{result_map_both}
 use Rattle.j39_frame.specs.Pgn.{pgn_raw}
 use Rattle.j39_frame.specs.Address.{global_address}

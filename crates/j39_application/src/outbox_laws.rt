@@ -27,14 +27,14 @@ pub fn none_is_lost()
 /// it has a NAME that holds none, and nothing is left of its 1,250 ms. What is refused as `NoAddress` the controller answered so when it
 /// was handed in, and nothing is left either.
 pub fn each_goes_to_its_name()
-    ensures to { (w : Who) (H : List Call) (now : ℕ) (s : OutboxRecord) (later : List Deed) (d : Deed) (earlier : List Deed) (rest : List Letter) (call : Call)
-        → IsTurn w H now s (later ++ d ∷ earlier) rest → Contains d.calls call → (a : ℕ) × (answer : Result ℕ Refused)
-        × (call ≡ hands_in now d.letter.errand a answer) × Stands w (calls now earlier ++ H) d.letter.name a }
-    ensures gone { (w : Who) (H : List Call) (now : ℕ) (s : OutboxRecord) (later : List Deed) (d : Deed) (earlier : List Deed) (rest : List Letter)
-        → IsTurn w H now s (later ++ d ∷ earlier) rest → d.settled ≡ Some settled.Gone
+    ensures to { (w : Who) (H : List Call) (now : ℕ) (s : OutboxRecord) (later : List Deed) (d : Deed) (earlier : List Deed)
+        (rest : List Letter) (call : Call) → IsTurn w H now s (later ++ d ∷ earlier) rest → Contains d.calls call
+        → (a : ℕ) × (answer : Result ℕ Refused) × (call ≡ hands_in now d.letter.errand a answer) × Stands w (calls now earlier ++ H) d.letter.name a }
+    ensures gone { (w : Who) (H : List Call) (now : ℕ) (s : OutboxRecord) (later : List Deed) (d : Deed) (earlier : List Deed)
+        (rest : List Letter) → IsTurn w H now s (later ++ d ∷ earlier) rest → d.settled ≡ Some settled.Gone
         → StandsNowhere w (calls now earlier ++ H) d.letter.name × (d.letter.left ≡ 0) }
-    ensures refused { (w : Who) (H : List Call) (now : ℕ) (s : OutboxRecord) (later : List Deed) (d : Deed) (earlier : List Deed) (rest : List Letter)
-        → IsTurn w H now s (later ++ d ∷ earlier) rest → d.settled ≡ Some (settled.Refused why.NoAddress) → (a : ℕ)
+    ensures refused { (w : Who) (H : List Call) (now : ℕ) (s : OutboxRecord) (later : List Deed) (d : Deed) (earlier : List Deed)
+        (rest : List Letter) → IsTurn w H now s (later ++ d ∷ earlier) rest → d.settled ≡ Some (settled.Refused why.NoAddress) → (a : ℕ)
         × (d.calls ≡ hands_in now d.letter.errand a (Err why.NoAddress) ∷ []) × (d.letter.left ≡ 0) }
 {}
 

@@ -162,12 +162,7 @@ fn put_number(answer: Result<u64, Refused>, number: &mut u64) -> i32
 }
 
 /// Takes the frame that goes out now.
-fn put_taken(
-    kept: &mut Outbox,
-    controller: &mut Controller,
-    now: Stamp,
-    out: &mut CanFrame,
-) -> i32
+fn put_taken(kept: &mut Outbox, controller: &mut Controller, now: Stamp, out: &mut CanFrame) -> i32
     ensures done { IsDone result }
     ensures takes { IsTake (stamp_micros now) (outbox_of kept.old) controller.old controller.new (sent result out.new) (outbox_of kept.new) }
     ensures answers { Answers 1 [] result }
