@@ -1,9 +1,12 @@
 //! Messages and requests to NAMEs: each goes to the address that its NAME holds when its frame is taken (J1939-81, 4.2).
-ghost use Rattle.std.specs.Prelude.{◌≡◌, ◌≤◌, ◌<◌, ◌+◌, ◌++◌, ◌∷◌, List, Option, IfOk, length, slice_get};
+ghost use Rattle.std.specs.Prelude.{◌≡◌, ◌≤◌, ◌<◌, ◌+◌, ◌++◌, ◌∷◌, [], List, Option, IfOk, length, slice_get};
 ghost use Rattle.std.specs.Vec.{vec_capacity};
 ghost use Rattle.j39_address.specs.Name.{name_raw};
 ghost use Rattle.j39_frame.specs.Pgn.{pgn_raw};
 ghost use Rattle.j39_frame.specs.Stamp.{stamp_micros};
+ghost use Rattle.j39_node.specs.History.Act.{TakeFrame};
+ghost use Rattle.j39_node.specs.History.Call.{At};
+ghost use Rattle.j39_application.specs.Answers.{LeadsOn};
 ghost use Rattle.j39_application.specs.Boxes.{errand_of};
 ghost use Rattle.j39_application.specs.Kept.{stays};
 ghost use Rattle.j39_application.specs.Outbox.{IsMet, IsTake, Letter as Shown, Message, Request, answer, ends, has_room, keeps, none_out, number_of, put, soonest, tells};
@@ -92,14 +95,14 @@ impl Outbox {
     pub fn take_frame(&mut self, controller: &mut Controller, now: Stamp) -> Option<Frame>
         ensures takes { IsTake (stamp_micros now) (outbox_of self.old) controller.old controller.new result (outbox_of self.new) }
     {
-        if let Some(due) = controller.take_frame(now) {
+        if let Some(due) = due_frame(controller, now) {
             return Some(due);
         }
         self.kept.pass(now);
         let count = self.kept.current.len();
         for _ in 0..count {
             self.turn_first(controller, now);
-            if let Some(frame) = controller.take_frame(now) {
+            if let Some(frame) = due_frame(controller, now) {
                 return Some(frame);
             }
         }
@@ -165,4 +168,13 @@ impl Outbox {
             self.settled.push_reserved(settled);
         }
     }
+}
+
+/// Takes the frame that the controller has due.
+// `take_frame` of a controller is written out where it is called: here once for an outbox.
+#[inline(never)]
+fn due_frame(controller: &mut Controller, now: Stamp) -> Option<Frame>
+    ensures { LeadsOn (At (stamp_micros now) (TakeFrame result) ∷ []) controller.old controller.new }
+{
+    controller.take_frame(now)
 }

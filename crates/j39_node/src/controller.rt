@@ -12,9 +12,10 @@ ghost use Rattle.j39_sessions.specs.Shown.{sessions_of};
 ghost use Rattle.j39_transfers.specs.Shown.{transfers_of};
 ghost use Rattle.j39_transfers.specs.Transfers.{none_of as no_transfers};
 ghost use Rattle.j39_node.specs.History.{Who, Call, missed, told_claims, nothing};
+ghost use Rattle.j39_node.specs.Boxes.{how_many};
 ghost use Rattle.j39_node.specs.Hearing.{unheard};
 ghost use Rattle.j39_node.specs.Moving.{HasMoved, IsSettled, has_given, has_told};
-ghost use Rattle.j39_node.specs.Is.{Is, IsRight, hearing_after, hearing_of, lane_after, lane_of, senders_of, status_after, who_for, who_of};
+ghost use Rattle.j39_node.specs.Is.{Is, IsRight, hearing_after, hearing_of, senders_of, status_after, who_for, who_of};
 
 pub(crate) use due::sooner;
 
@@ -40,6 +41,7 @@ use arrayvec::ArrayVec;
 use j39_address::{Claims, Name, Status};
 use j39_frame::{NULL_ADDRESS, Pgn};
 use j39_sessions::Sessions;
+use j39_transport::LONGEST;
 use std::alloc::{AllocError, Global};
 
 /// A controller of one address: it claims it, defends it, sends messages of one frame and receives those of others, sends longer
@@ -84,6 +86,7 @@ impl Controller {
         let Some(own) = Own::new(setup) else {
             return Ok(None);
         };
+        let free = Lane::room(alloc, setup.transfers)?;
         let Some(sessions) = Sessions::new(alloc, setup.address, setup.window, setup.sessions)?
         else {
             return Ok(None);
@@ -93,8 +96,7 @@ impl Controller {
             return Ok(None);
         };
         let hearing = Hearing::new(alloc, setup.broadcasts)?;
-        let lane = Lane::new(alloc, setup.transfers)?;
-        Ok(Some(Controller::begun(own, sessions, transfers, hearing, lane)))
+        Ok(Some(Controller::begun(own, sessions, transfers, hearing, free)))
     }
 
     /// The same, built in a box of its own: so it takes little stack.
@@ -106,6 +108,7 @@ impl Controller {
         let Some(own) = Own::new(setup) else {
             return Ok(None);
         };
+        let free = Lane::room(alloc, setup.transfers)?;
         let Some(transfers) = j39_transfers::Transfers::new(alloc, setup.address, setup.transfers)?
         else {
             return Ok(None);
@@ -115,10 +118,9 @@ impl Controller {
             return Ok(None);
         };
         let hearing = Hearing::new(alloc, setup.broadcasts)?;
-        let lane = Lane::new(alloc, setup.transfers)?;
         match Box::new(
             alloc,
-            Controller::begun(own, sessions, transfers, hearing, lane),
+            Controller::begun(own, sessions, transfers, hearing, free),
         ) {
             Ok(controller) => Ok(Some(controller)),
             Err(_) => Err(AllocError),
@@ -132,13 +134,13 @@ impl Controller {
         sessions: Sessions,
         transfers: j39_transfers::Transfers,
         hearing: Hearing,
-        lane: Lane,
+        free: Option<Box<ArrayVec<u8, LONGEST>>>,
     ) -> Controller
         requires sessions { sessions_of sessions ≡ none_of own.address own.window own.sessions }
         requires transfers { transfers_of transfers ≡ no_transfers own.address own.transfers }
         requires hearing { hearing_of hearing ≡ hearing_after (who_of nothing own) [] }
         requires senders { senders_of hearing ≡ [] }
-        requires lane { lane_of (who_of nothing own) lane ≡ lane_after (who_of nothing own) [] }
+        requires free { how_many free ≡ min 1 own.transfers }
         ensures { Is (who_of nothing own) [] result }
     {
         Controller {
@@ -151,7 +153,7 @@ impl Controller {
             inbox: Inbox::new(),
             desk: Desk::new(),
             holders: Claims::new(),
-            lane,
+            lane: Lane::new(free),
             incoming: Incoming::new(sessions),
             transfers: Transfers::new(transfers),
             hearing,

@@ -79,23 +79,30 @@ pub(crate) struct Lane {
 impl Lane {
     ghost use Rattle.j39_node.specs.Is.{broadcast_end, lane_of, opened, packet_by, stamped, who_of};
 
-    /// No broadcast was accepted. It takes memory for one, where there is any for transfers.
-    // As `Hearing::new`, it would want stack of its caller for all that a controller is made of.
+    /// The box of a broadcast, where there are any for transfers: it takes memory.
     #[inline(never)]
-    pub(crate) fn new(alloc: Global, transfers: u8) -> Result<Lane, AllocError>
-        ensures { IfOk result (λ l. (w : Who) → lane_of w l ≡ record { current = None; count = 0; next_token = 0; boxes = min 1 transfers }) }
+    pub(crate) fn room(
+        alloc: Global,
+        transfers: u8,
+    ) -> Result<Option<Box<ArrayVec<u8, LONGEST>>>, AllocError>
+        ensures { IfOk result (λ free. how_many free ≡ min 1 transfers) }
     {
-        let free = if transfers == 0 {
-            None
-        } else {
-            Some(Box::new(alloc, ArrayVec::new())?)
-        };
-        Ok(Lane {
+        if transfers == 0 {
+            return Ok(None);
+        }
+        Ok(Some(Box::new(alloc, ArrayVec::new())?))
+    }
+
+    /// No broadcast was accepted, and this is the box of the next.
+    pub(crate) fn new(free: Option<Box<ArrayVec<u8, LONGEST>>>) -> Lane
+        ensures { (w : Who) → lane_of w result ≡ record { current = None; count = 0; next_token = 0; boxes = how_many free } }
+    {
+        Lane {
             current: None,
             free,
             count: 0,
             next_token: 0,
-        })
+        }
     }
 
     /// The next frame of the open broadcast, once it is due.
