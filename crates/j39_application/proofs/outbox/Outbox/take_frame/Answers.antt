@@ -14,7 +14,7 @@ returns-in-Some c = record { takes = due c.in-Some.due c.in-Some.ensures }
 pub loop-init : goal.loop-init
 loop-init c = (
   begins letter_box (stamp_micros c.args.now) c.len-count.result (older (stamp_micros c.args.now) (outbox_of c.args.self.now))
-      c.pass.new.self.current.items c.args.self.now.settled.items c.args.controller.now c.due_frame.new.self c.pass.ensures.passes (search rules)
+      c.pass.new.self.current.items c.args.self.now.settled.items c.args.controller.now c.due_frame.new.controller c.pass.ensures.passes (search rules)
       c.in_default.ensures,
   c.pass.ensures.stays.0,
   refl,
@@ -28,10 +28,10 @@ returns-in-Some-due_frame c =
     let frame : Option FrameRecord = Some c.in-Some-due_frame.frame in
     record {
       takes = is_take now c.len-count.result (c.loop.counter + 1) (outbox_of c.args.self.now) (outbox_of c.turn_first.new.self) c.args.controller.now
-          c.due_frame-in-loop.new.self frame
+          c.due_frame-in-loop.new.controller frame
           (goes_on now c.len-count.result c.loop.counter (older now (outbox_of c.args.self.now)) (map letter_box c.loop.self.kept.current.items)
           (map letter_box c.turn_first.new.self.kept.current.items) c.args.self.now.settled.items c.loop.self.settled.items
-          c.turn_first.new.self.settled.items c.args.controller.now c.loop.controller c.turn_first.new.controller c.due_frame-in-loop.new.self frame i.0
+          c.turn_first.new.self.settled.items c.args.controller.now c.loop.controller c.turn_first.new.controller c.due_frame-in-loop.new.controller frame i.0
           c.loop-test.true c.turn_first.ensures.meets c.in-Some-due_frame.ensures)
           (λ z. absurd cc) (c.turn_first.ensures.stays.0 ∙ i.1) (c.turn_first.ensures.stays.1 ∙ i.2) (c.turn_first.ensures.stays.2 ∙ i.3);
     }
@@ -42,7 +42,7 @@ loop-preserved c =
     let i = c.loop.invariant in (
       goes_on now c.len-count.result c.loop.counter (older now (outbox_of c.args.self.now)) (map letter_box c.loop.self.kept.current.items)
           (map letter_box c.turn_first.new.self.kept.current.items) c.args.self.now.settled.items c.loop.self.settled.items
-          c.turn_first.new.self.settled.items c.args.controller.now c.loop.controller c.turn_first.new.controller c.due_frame-in-loop.new.self None i.0
+          c.turn_first.new.self.settled.items c.args.controller.now c.loop.controller c.turn_first.new.controller c.due_frame-in-loop.new.controller None i.0
           c.loop-test.true c.turn_first.ensures.meets c.in_default-due_frame.ensures,
       c.turn_first.ensures.stays.0 ∙ i.1,
       c.turn_first.ensures.stays.1 ∙ i.2,
