@@ -74,6 +74,7 @@ impl Controller {
     }
 
     /// The same, beside claims and acknowledgments, by the hold that was led to this moment.
+    #[inline(always)]
     fn take_other(&mut self, hold: Hold, now: Stamp) -> Option<Frame>
         ensures { (w : Who) (H : List Call) → Is w H self.old → IsOthers w H (stamp_micros now) hold
             → Is w (At (stamp_micros now) (TakeFrame result) ∷ H) self.new }
