@@ -12,10 +12,10 @@ ghost use Rattle.j39_sessions.specs.Shown.{sessions_of};
 ghost use Rattle.j39_transfers.specs.Shown.{transfers_of};
 ghost use Rattle.j39_transfers.specs.Transfers.{none_of as no_transfers};
 ghost use Rattle.j39_node.specs.History.{Who, Call, missed, told_claims, nothing};
-ghost use Rattle.j39_node.specs.declared.lane.Lane.{Lane};
+ghost use Rattle.j39_node.specs.Boxes.{how_many};
 ghost use Rattle.j39_node.specs.Hearing.{unheard};
 ghost use Rattle.j39_node.specs.Moving.{HasMoved, IsSettled, has_given, has_told};
-ghost use Rattle.j39_node.specs.Is.{Is, IsRight, hearing_after, hearing_of, lane_after, lane_of, senders_of, status_after, who_for, who_of};
+ghost use Rattle.j39_node.specs.Is.{Is, IsRight, hearing_after, hearing_of, senders_of, status_after, who_for, who_of};
 
 pub(crate) use due::sooner;
 
@@ -41,6 +41,7 @@ use arrayvec::ArrayVec;
 use j39_address::{Claims, Name, Status};
 use j39_frame::{NULL_ADDRESS, Pgn};
 use j39_sessions::Sessions;
+use j39_transport::LONGEST;
 use std::alloc::{AllocError, Global};
 
 /// A controller of one address: it claims it, defends it, sends messages of one frame and receives those of others, sends longer
@@ -85,6 +86,7 @@ impl Controller {
         let Some(own) = Own::new(setup) else {
             return Ok(None);
         };
+        let free = Lane::room(alloc, setup.transfers)?;
         let Some(sessions) = Sessions::new(alloc, setup.address, setup.window, setup.sessions)?
         else {
             return Ok(None);
@@ -94,9 +96,7 @@ impl Controller {
             return Ok(None);
         };
         let hearing = Hearing::new(alloc, setup.broadcasts)?;
-        let mut controller = Controller::begun(own, sessions, transfers, hearing);
-        controller.lane = Lane::new(Lane::room(alloc, setup.transfers)?);
-        Ok(Some(controller))
+        Ok(Some(Controller::begun(own, sessions, transfers, hearing, free)))
     }
 
     /// The same, built in a box of its own: so it takes little stack.
@@ -108,6 +108,7 @@ impl Controller {
         let Some(own) = Own::new(setup) else {
             return Ok(None);
         };
+        let free = Lane::room(alloc, setup.transfers)?;
         let Some(transfers) = j39_transfers::Transfers::new(alloc, setup.address, setup.transfers)?
         else {
             return Ok(None);
@@ -117,30 +118,30 @@ impl Controller {
             return Ok(None);
         };
         let hearing = Hearing::new(alloc, setup.broadcasts)?;
-        // Its own broadcast's box comes last: an error before would want stack for all that it is made of.
-        match Box::new(alloc, Controller::begun(own, sessions, transfers, hearing)) {
-            Ok(mut controller) => {
-                controller.lane = Lane::new(Lane::room(alloc, setup.transfers)?);
-                Ok(Some(controller))
-            }
+        match Box::new(
+            alloc,
+            Controller::begun(own, sessions, transfers, hearing, free),
+        ) {
+            Ok(controller) => Ok(Some(controller)),
             Err(_) => Err(AllocError),
         }
     }
 
-    /// Nothing was called of it; its lane is still to come.
+    /// Nothing was called of it.
     #[inline(always)]
     fn begun(
         own: Own,
         sessions: Sessions,
         transfers: j39_transfers::Transfers,
         hearing: Hearing,
+        free: Option<Box<ArrayVec<u8, LONGEST>>>,
     ) -> Controller
         requires sessions { sessions_of sessions ≡ none_of own.address own.window own.sessions }
         requires transfers { transfers_of transfers ≡ no_transfers own.address own.transfers }
         requires hearing { hearing_of hearing ≡ hearing_after (who_of nothing own) [] }
         requires senders { senders_of hearing ≡ [] }
-        ensures { (l : Lane) → lane_of (who_of nothing own) l ≡ lane_after (who_of nothing own) []
-            → Is (who_of nothing own) [] (record result { lane = l }) }
+        requires free { how_many free ≡ min 1 own.transfers }
+        ensures { Is (who_of nothing own) [] result }
     {
         Controller {
             own,
@@ -152,7 +153,7 @@ impl Controller {
             inbox: Inbox::new(),
             desk: Desk::new(),
             holders: Claims::new(),
-            lane: Lane::new(None),
+            lane: Lane::new(free),
             incoming: Incoming::new(sessions),
             transfers: Transfers::new(transfers),
             hearing,
