@@ -33,7 +33,9 @@ impl Waiting {
     ghost use Rattle.j39_reports.specs.Forwards.{head_text, waiting_text};
 
     /// None.
-    pub fn new() -> Waiting {
+    pub fn new() -> Waiting
+        ensures none { result.at ≡ 0 }
+    {
         Waiting {
             block: [0; BLOCK],
             at: 0,
