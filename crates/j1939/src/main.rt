@@ -187,7 +187,9 @@ fn unread<E: Sink>(name: &str, error: &io::Error, err: &mut E) -> u8
     }
 }
 
-/// Performs a task by these names and the table that a text says, or says why it says none.
+/// Performs a task by these names and the table that a text says, or says why it says none. Apart, so that its caller needs no
+/// room for a second table.
+#[inline(never)]
 fn by_text<W: Sink, E: Sink>(
     rt: &HostRuntime,
     task: &Task<'_>,

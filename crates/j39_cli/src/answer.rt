@@ -112,6 +112,7 @@ fn address_of(text: &str) -> Option<Address>
 }
 
 /// Performs it: the lines go to `sink`, the counts or what failed to `err`.
+#[inline(never)]
 pub(crate) fn perform<R: Source, W: Sink, E: Sink>(
     alloc: Global,
     name: Name,

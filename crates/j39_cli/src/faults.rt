@@ -170,6 +170,7 @@ fn versions_in(conversions: &Option<Conversions>) -> &[Conversion]
 }
 
 /// Performs it by these names: the faults go to `sink`, the counts or what failed to `err`.
+#[inline(never)]
 pub(crate) fn perform<R: Source, W: Sink, E: Sink>(
     alloc: Global,
     naming: &Naming<'_, '_>,

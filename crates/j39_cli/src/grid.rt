@@ -160,6 +160,7 @@ fn has_columns(given: &ArgMatches<'_>) -> Result<(), ParseFault>
 
 /// Performs it by a table's rows of the parameters that are asked for: the grid goes to `sink`, the counts or what failed to
 /// `err`.
+#[inline(never)]
 pub(crate) fn perform<R: Source, W: Sink, E: Sink>(
     alloc: Global,
     groups: &Groups<'_>,

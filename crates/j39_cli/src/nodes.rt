@@ -142,6 +142,7 @@ fn seen(format: Format) -> NodesTold
 }
 
 /// Reads a log, and tells of the addresses after it, of those that are asked for.
+#[inline(never)]
 pub(crate) fn run<R: Source, W: Sink>(
     own: &[Named<'_>],
     told: NodesTold,

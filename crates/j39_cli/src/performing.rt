@@ -89,7 +89,7 @@ pub fn perform_with<R: Source, W: Sink, E: Sink>(
     }
 }
 
-/// Performs a task below its head.
+/// Performs a task below its head. Each command is performed apart: so it needs no room for what the others keep.
 fn perform_below<R: Source, W: Sink, E: Sink>(
     alloc: Global,
     naming: &Naming<'_, '_>,

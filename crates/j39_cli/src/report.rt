@@ -73,6 +73,7 @@ pub(crate) fn task<'a>(alloc: Global, given: &ArgMatches<'a>) -> Result<Task<'a>
 
 /// Performs it by a table of parameters, or by its rows of those that are asked for: the report goes to `sink`, the counts
 /// or what failed to `err`.
+#[inline(never)]
 pub(crate) fn perform<R: Source, W: Sink, E: Sink>(
     alloc: Global,
     groups: &Groups<'_>,

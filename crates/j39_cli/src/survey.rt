@@ -70,6 +70,7 @@ pub(crate) fn task<'a>(alloc: Global, given: &ArgMatches<'a>) -> Result<Task<'a>
 }
 
 /// Performs it: the survey goes to `sink`, what failed to `err`.
+#[inline(never)]
 pub(crate) fn perform<R: Source, W: Sink, E: Sink>(
     alloc: Global,
     wanted: SurveyWanted<'_, '_>,

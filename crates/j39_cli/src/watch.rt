@@ -161,6 +161,7 @@ fn size_for(rows: Option<u16>, width: Option<u16>, is_coloured: bool, is_utc: bo
 
 /// Performs it by names and their table of parameters, or by its rows of those that are asked for: the screens go to `sink`, the counts or
 /// what failed to `err`.
+#[inline(never)]
 pub(crate) fn perform<R: Source, W: Sink, E: Sink>(
     alloc: Global,
     naming: &Naming<'_, '_>,

@@ -1,5 +1,4 @@
 -- What is remembered of the sides of values.
-use Rattle.std.specs.Borrow.{Bor}
 use Rattle.std.specs.List.{between}
 use Rattle.std.specs.Prelude.{◌≡◌, ◌<◌, ◌≤◌, ◌==◌, ◌&&◌, ◌||◌, ℕ, Bool, List, Option, None, Some, bytes_eq, drop, if◌then◌else◌, nat_lt, not, slice_index_or, true}
 use Rattle.j39_groups.specs.Names.{group_name_in, name_in, state_in}
@@ -7,7 +6,6 @@ use Rattle.j39_groups.specs.Row.{RowRecord}
 use Rattle.j39_groups.specs.Value.{ValueRecord}
 use Rattle.j39_reports.specs.declared.sides.Behind.{Behind}
 use Rattle.j39_reports.specs.declared.sides.GroupSide.{GroupSide}
-use Rattle.j39_reports.specs.declared.sides.Missed.{Missed}
 use Rattle.j39_reports.specs.declared.sides.Sides.{Sides}
 
 -- this stands behind a value of this unit, or of none
@@ -35,11 +33,6 @@ is_open_to sides pgn spn unit =
     if sides.is_ready && (sides.spn == spn) && (sides.pgn == pgn)
     then nat_lt 16 sides.unit_from || not (bytes_eq (drop sides.unit_from sides.unit) unit)
     else (sides.pgn == 4294967295)
-
--- what is missed where these sides stand in the parameter's place
-abbrev pub missed_by : Sides → ℕ → ℕ → Bor (List ℕ) → Option Missed
-missed_by sides pgn spn unit =
-    if is_open_to sides pgn spn unit.now then Some (record { spn = spn; unit = unit }) else None
 
 -- this is said of its group by this table
 pub record SuitsGroup (of_group : ℕ → Option (List ℕ) → List ℕ) (groups : List RowRecord) (side : GroupSide) : Type 0 where

@@ -6,8 +6,9 @@ ghost use Rattle.j39_io.specs.Backwards.{WritesBefore};
 ghost use Rattle.j39_groups.specs.Models.{value_of};
 ghost use Rattle.j39_groups.specs.Value.{ValueRecord};
 ghost use Rattle.j39_reports.specs.EntryObject.{unit_in};
-ghost use Rattle.j39_reports.specs.SidesSoFar.{AreKnown, AreKnownGroups, IsBehind, Suits, SuitsGroup, is_open_to, missed_by};
+ghost use Rattle.j39_reports.specs.SidesSoFar.{AreKnown, AreKnownGroups, IsBehind, Suits, SuitsGroup, is_open_to};
 
+use arrayvec::ArrayVec;
 use j39_frame::Pgn;
 use j39_groups::{Groups, Value};
 use j39_io::backwards::slice_before;
@@ -242,10 +243,20 @@ impl Sides {
 }
 
 /// A parameter whose sides can be learned, and the unit of its value.
-#[derive(Clone, Copy)]
-pub(crate) struct Missed<'t> {
-    pub spn: u32,
-    pub unit: &'t [u8],
+#[derive(Debug, Drop)]
+pub(crate) struct Missed {
+    spn: u32,
+    unit: ArrayVec<u8, UNIT>,
+}
+
+impl Missed {
+    /// `None` where the unit is long: it has no sides.
+    pub fn of(spn: u32, unit: &[u8]) -> Option<Missed>
+        ensures { IfSome result (λ missed. (missed.spn ≡ spn) × (missed.unit.items ≡ unit.now)) }
+    {
+        let unit = ArrayVec::try_from(unit).ok()?;
+        Some(Missed { spn, unit })
+    }
 }
 
 /// A table, the sides of the parameters that came first, and what is said of the groups that came last.
@@ -332,36 +343,28 @@ impl<'g, 't, F: SideForm> KnownSides<'g, 't, F> {
         }
     }
 
-    /// What can be learned of a parameter of a group: nothing where another holds its place, or it has no sides, or they are of
-    /// this unit.
-    pub fn missed(&self, pgn: u32, spn: u32, unit: &'t [u8]) -> Option<Missed<'t>>
+    /// Whether the sides of a parameter of a group can be learned: not where another holds its place, or it has none, or they are
+    /// of this unit.
+    pub fn can_learn(&self, pgn: u32, spn: u32, unit: &[u8]) -> bool
         ensures { (place : ℕ) × (place < 256) × ((d : Sides)
-            → result ≡ missed_by (slice_index_or self.now.known place d) pgn spn unit.entry) }
+            → result ≡ is_open_to (slice_index_or self.now.known place d) pgn spn unit.now) }
     {
-        let held = self.known[place_of(pgn, spn)];
-        if held.is_open_to(pgn, spn, unit) {
-            Some(Missed { spn, unit })
-        } else {
-            None
-        }
+        self.known[place_of(pgn, spn)].is_open_to(pgn, spn, unit)
     }
 
-    /// Learns what was missed in a group, if anything was.
-    #[inline(always)]
-    pub fn learn(&mut self, pgn: Pgn, missed: Option<Missed<'t>>)
-        ensures { self.new.groups ≡ self.old.groups }
-    {
-        if let Some(Missed { spn, unit }) = missed {
-            self.remember(pgn.raw(), spn, unit);
-        }
-    }
-
-    /// Remembers the sides of a parameter of a group for values of this unit.
+    /// Learns what was missed in a group.
     #[inline(never)]
-    fn remember(&mut self, pgn: u32, spn: u32, unit: &[u8])
+    pub fn learn(&mut self, pgn: Pgn, missed: &Missed)
         ensures { self.new.groups ≡ self.old.groups }
     {
-        self.known[place_of(pgn, spn)] = Sides::of_or_none::<F>(self.groups, pgn, spn, unit);
+        let pgn = pgn.raw();
+        let spn = missed.spn;
+        self.known[place_of(pgn, spn)] = Sides::of_or_none::<F>(
+            self.groups,
+            pgn,
+            spn,
+            missed.unit.as_slice(),
+        );
     }
 }
 

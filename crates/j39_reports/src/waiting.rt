@@ -3,7 +3,7 @@ ghost use Rattle.std.specs.Prelude.{◌≡◌, ◌+◌, ◌≤◌, ◌++◌, Non
 
 use crate::forwards::part_behind;
 use crate::head::Head;
-use crate::sides::{BEHIND, KnownSides, SIDE, SideForm, VALUE, unit_in};
+use crate::sides::{BEHIND, KnownSides, Missed, SIDE, SideForm, VALUE, unit_in};
 use j39_frame::Pgn;
 use j39_groups::Value;
 use j39_io::{DeviceFault, Sink, put_all};
@@ -20,6 +20,8 @@ pub(crate) struct Waiting {
     pub block: [u8; BLOCK],
     pub at: usize,
     value: [u8; 80],
+    /// Of a parameter whose entry couldn't wait.
+    missed: Option<Missed>,
     pub ghost inside: { at ≤ 2048 },
 }
 
@@ -40,6 +42,7 @@ impl Waiting {
             block: [0; BLOCK],
             at: 0,
             value: [0; 80],
+            missed: None,
         }
     }
 
@@ -52,6 +55,32 @@ impl Waiting {
         let at = self.at;
         self.at = 0;
         put_all(sink, &self.block[..at])
+    }
+
+    /// Notes a parameter of a group whose entry couldn't wait, where its sides can be learned for values of this unit.
+    pub fn miss<F: SideForm>(
+        &mut self,
+        known: &KnownSides<'_, '_, F>,
+        pgn: u32,
+        spn: u32,
+        unit: &[u8],
+    )
+        ensures { waiting_text self.new ≡ waiting_text self.old }
+    {
+        if known.can_learn(pgn, spn, unit) {
+            self.missed = Missed::of(spn, unit);
+        }
+    }
+
+    /// Has the sides of what was noted of a group learned.
+    #[inline(always)]
+    pub fn teach<F: SideForm>(&mut self, known: &mut KnownSides<'_, '_, F>, pgn: Pgn)
+        ensures { known.new.groups ≡ known.old.groups }
+    {
+        if let Some(missed) = &self.missed {
+            known.learn(pgn, missed);
+            self.missed = None;
+        }
     }
 
     /// Puts the entry of a reading behind them, and answers whether it did: there has to be room, and what it begins with and

@@ -22,7 +22,7 @@ use crate::report_objects::object_sides::ObjectSides;
 use crate::report_objects::quick_object::object_before;
 use crate::report_records::digits_before;
 use crate::second::Second;
-use crate::sides::{KnownSides, Missed, unit_in};
+use crate::sides::{KnownSides, unit_in};
 use crate::waiting::{BLOCK, Waiting};
 use arrayvec::ArrayVec;
 use j39_frame::Pgn;
@@ -40,7 +40,6 @@ pub(crate) struct Objects<'k, 'g, 't, 'b> {
     opening: &'b mut Head,
     pgn: Pgn,
     lines: u64,
-    missed: Option<Missed<'t>>,
     waiting: &'b mut Waiting,
 }
 
@@ -67,7 +66,6 @@ impl<'k, 'g, 't, 'b> Objects<'k, 'g, 't, 'b> {
             opening,
             pgn: heard.message.pgn,
             lines: 0,
-            missed: None,
             waiting,
         }
     }
@@ -118,9 +116,8 @@ impl<'g, 't> EntryForm for ObjectForm<'g, 't> {
         match groups.visit(heard.message.pgn, heard.message.payload, &mut objects, sink) {
             Ok(()) => {
                 let lines = objects.lines;
-                let missed = objects.missed;
                 objects.waiting.put(sink)?;
-                self.known.learn(heard.message.pgn, missed);
+                self.waiting.teach(&mut self.known, heard.message.pgn);
                 Ok(lines)
             }
             Err(DeviceFault) => Err(DeviceFault),
@@ -151,7 +148,6 @@ impl<'k, 'g, 't, 'b, W: Sink> ReadingVisitor<'t, W> for Objects<'k, 'g, 't, 'b> 
             self.waiting,
             self.opening,
             self.known,
-            &mut self.missed,
             self.pgn,
             spn,
             value,
@@ -205,14 +201,13 @@ fn open_unknown(opening: &mut Head, heard: &Heard<'_>, second: &mut Second)
 
 /// Puts the object of a reading behind those that wait, or writes them and it.
 #[inline(always)]
-fn put_entry<'t, W: Sink>(
+fn put_entry<W: Sink>(
     waiting: &mut Waiting,
     opening: &Head,
-    known: &KnownSides<'_, 't, ObjectSides>,
-    missed: &mut Option<Missed<'t>>,
+    known: &KnownSides<'_, '_, ObjectSides>,
     pgn: Pgn,
     spn: u32,
-    value: Value<'t, '_>,
+    value: Value<'_, '_>,
     sink: &mut W,
 ) -> Result<(), DeviceFault>
     ensures { Gathers (waiting_text waiting.old) (opened opening.now (group_name_in known.now.groups.now (pgn_raw pgn))
@@ -223,19 +218,18 @@ fn put_entry<'t, W: Sink>(
     if waiting.push(opening, known, pgn, spn, value) {
         return Ok(());
     }
-    put_unknown(waiting, opening, known, missed, pgn, spn, value, sink)
+    put_unknown(waiting, opening, known, pgn, spn, value, sink)
 }
 
 /// Writes the objects that wait, and that of a reading whose sides aren't known, and notes what can be learned of its parameter.
 #[inline(never)]
-fn put_unknown<'t, W: Sink>(
+fn put_unknown<W: Sink>(
     waiting: &mut Waiting,
     opening: &Head,
-    known: &KnownSides<'_, 't, ObjectSides>,
-    missed: &mut Option<Missed<'t>>,
+    known: &KnownSides<'_, '_, ObjectSides>,
     pgn: Pgn,
     spn: u32,
-    value: Value<'t, '_>,
+    value: Value<'_, '_>,
     sink: &mut W,
 ) -> Result<(), DeviceFault>
     ensures { Gathers (waiting_text waiting.old) (opened opening.now (group_name_in known.now.groups.now (pgn_raw pgn))
@@ -245,7 +239,7 @@ fn put_unknown<'t, W: Sink>(
 {
     waiting.put(sink)?;
     let number = pgn.raw();
-    *missed = known.missed(number, spn, value.unit()).or(*missed);
+    waiting.miss(known, number, spn, value.unit());
     let group = known.groups.group_name(pgn);
     let (parameter, state) = known.groups.called_in(number, spn, value);
     put_object(

@@ -20,7 +20,7 @@ use crate::report_records::quick_record::record_before;
 use crate::report_records::record_head::{begin_before, heard_before};
 use crate::report_records::record_sides::{RecordSides, or_nothing};
 use crate::second::Second;
-use crate::sides::{KnownSides, Missed};
+use crate::sides::KnownSides;
 use crate::waiting::{BLOCK, Waiting};
 use arrayvec::ArrayVec;
 use j39_frame::Pgn;
@@ -36,7 +36,6 @@ pub(crate) struct Records<'k, 'g, 't, 'b> {
     begin: &'b mut Head,
     pgn: Pgn,
     lines: u64,
-    missed: Option<Missed<'t>>,
     waiting: &'b mut Waiting,
 }
 
@@ -63,7 +62,6 @@ impl<'k, 'g, 't, 'b> Records<'k, 'g, 't, 'b> {
             begin,
             pgn: heard.message.pgn,
             lines: 0,
-            missed: None,
             waiting,
         }
     }
@@ -114,9 +112,8 @@ impl<'g, 't> EntryForm for RecordForm<'g, 't> {
         match groups.visit(heard.message.pgn, heard.message.payload, &mut records, sink) {
             Ok(()) => {
                 let lines = records.lines;
-                let missed = records.missed;
                 records.waiting.put(sink)?;
-                self.known.learn(heard.message.pgn, missed);
+                self.waiting.teach(&mut self.known, heard.message.pgn);
                 Ok(lines)
             }
             Err(DeviceFault) => Err(DeviceFault),
@@ -147,7 +144,6 @@ impl<'k, 'g, 't, 'b, W: Sink> ReadingVisitor<'t, W> for Records<'k, 'g, 't, 'b> 
             self.waiting,
             self.begin,
             self.known,
-            &mut self.missed,
             self.pgn,
             spn,
             value,
@@ -200,14 +196,13 @@ fn begin_unknown(begin: &mut Head, heard: &Heard<'_>, second: &mut Second)
 
 /// Puts the record of a reading behind those that wait, or writes them and it.
 #[inline(always)]
-fn put_entry<'t, W: Sink>(
+fn put_entry<W: Sink>(
     waiting: &mut Waiting,
     begin: &Head,
-    known: &KnownSides<'_, 't, RecordSides>,
-    missed: &mut Option<Missed<'t>>,
+    known: &KnownSides<'_, '_, RecordSides>,
     pgn: Pgn,
     spn: u32,
-    value: Value<'t, '_>,
+    value: Value<'_, '_>,
     sink: &mut W,
 ) -> Result<(), DeviceFault>
     ensures { Gathers (waiting_text waiting.old)
@@ -219,19 +214,18 @@ fn put_entry<'t, W: Sink>(
     if waiting.push(begin, known, pgn, spn, value) {
         return Ok(());
     }
-    put_unknown(waiting, begin, known, missed, pgn, spn, value, sink)
+    put_unknown(waiting, begin, known, pgn, spn, value, sink)
 }
 
 /// Writes the records that wait, and that of a reading whose sides aren't known, and notes what can be learned of its parameter.
 #[inline(never)]
-fn put_unknown<'t, W: Sink>(
+fn put_unknown<W: Sink>(
     waiting: &mut Waiting,
     begin: &Head,
-    known: &KnownSides<'_, 't, RecordSides>,
-    missed: &mut Option<Missed<'t>>,
+    known: &KnownSides<'_, '_, RecordSides>,
     pgn: Pgn,
     spn: u32,
-    value: Value<'t, '_>,
+    value: Value<'_, '_>,
     sink: &mut W,
 ) -> Result<(), DeviceFault>
     ensures { Gathers (waiting_text waiting.old)
@@ -241,7 +235,7 @@ fn put_unknown<'t, W: Sink>(
         (waiting_text waiting.new) result (turn W.written W.has_failed sink.old sink.new) }
 {
     waiting.put(sink)?;
-    *missed = known.missed(pgn.raw(), spn, value.unit()).or(*missed);
+    waiting.miss(known, pgn.raw(), spn, value.unit());
     let group = group_of(known.groups, pgn);
     let Called { parameter, state } = called_in(known.groups, pgn, spn, value);
     put_record(
