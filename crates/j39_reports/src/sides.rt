@@ -349,7 +349,8 @@ impl<'g, 't, F: SideForm> KnownSides<'g, 't, F> {
         ensures { (place : ℕ) × (place < 256) × ((d : Sides)
             → result ≡ is_open_to (slice_index_or self.now.known place d) pgn spn unit.now) }
     {
-        self.known[place_of(pgn, spn)].is_open_to(pgn, spn, unit)
+        let held = self.known[place_of(pgn, spn)];
+        held.is_open_to(pgn, spn, unit)
     }
 
     /// Learns what was missed in a group.
