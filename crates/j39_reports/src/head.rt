@@ -11,7 +11,7 @@ const HALF: usize = 96;
 
 /// What each entry of a message begins with: the bytes of a block from a place up to its middle. The other half is for the
 /// copies, which go on behind it.
-#[derive(Debug, Drop)]
+#[derive(Drop)]
 pub(crate) struct Head {
     pub block: [u8; 384],
     pub from: usize,

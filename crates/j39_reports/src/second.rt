@@ -14,7 +14,7 @@ use j39_io::backwards::{
 use j39_rows::second_text;
 
 /// A second and its texts, kept from message to message: most come within the second of the message before.
-#[derive(Clone, Copy, Debug)]
+#[derive(Clone, Copy)]
 pub(crate) struct Second {
     value: u64,
     digits: [u8; 10],

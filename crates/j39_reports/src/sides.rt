@@ -1,6 +1,6 @@
 //! What stands on both sides of the values of a parameter, and what is said of a group, remembered: most values are of a few
 //! parameters.
-ghost use Rattle.std.specs.Prelude.{◌≡◌, ◌<◌, ◌≤◌, ℕ, List, None, Option, IfSome, Some, false, length, option_map, slice_index_or, true};
+ghost use Rattle.std.specs.Prelude.{◌≡◌, ◌<◌, ◌≤◌, ℕ, List, None, Option, IfSome, Some, drop, false, length, option_map, slice_index_or, true};
 ghost use Rattle.std.proofs.Props.{props};
 ghost use Rattle.j39_io.specs.Backwards.{WritesBefore};
 ghost use Rattle.j39_groups.specs.Models.{value_of};
@@ -8,7 +8,6 @@ ghost use Rattle.j39_groups.specs.Value.{ValueRecord};
 ghost use Rattle.j39_reports.specs.EntryObject.{unit_in};
 ghost use Rattle.j39_reports.specs.SidesSoFar.{AreKnown, AreKnownGroups, IsBehind, Suits, SuitsGroup, is_open_to};
 
-use arrayvec::ArrayVec;
 use j39_frame::Pgn;
 use j39_groups::{Groups, Value};
 use j39_io::backwards::slice_before;
@@ -243,19 +242,29 @@ impl Sides {
 }
 
 /// A parameter whose sides can be learned, and the unit of its value.
-#[derive(Debug, Drop)]
+#[derive(Clone, Copy)]
 pub(crate) struct Missed {
     spn: u32,
-    unit: ArrayVec<u8, UNIT>,
+    unit: [u8; UNIT],
+    from: usize,
+    ghost inside: { from ≤ 16 },
 }
 
 impl Missed {
     /// `None` where the unit is long: it has no sides.
     pub fn of(spn: u32, unit: &[u8]) -> Option<Missed>
-        ensures { IfSome result (λ missed. (missed.spn ≡ spn) × (missed.unit.items ≡ unit.now)) }
+        ensures { IfSome result (λ missed. (missed.spn ≡ spn) × (drop missed.from missed.unit ≡ unit.now)) }
     {
-        let unit = ArrayVec::try_from(unit).ok()?;
-        Some(Missed { spn, unit })
+        if unit.len() > UNIT {
+            return None;
+        }
+        let mut own_unit = [0; UNIT];
+        let from = slice_before(&mut own_unit, UNIT, unit);
+        Some(Missed {
+            spn,
+            unit: own_unit,
+            from,
+        })
     }
 }
 
@@ -364,7 +373,7 @@ impl<'g, 't, F: SideForm> KnownSides<'g, 't, F> {
             self.groups,
             pgn,
             spn,
-            missed.unit.as_slice(),
+            &missed.unit[missed.from..],
         );
     }
 }

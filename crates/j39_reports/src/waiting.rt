@@ -15,7 +15,7 @@ pub(crate) const BLOCK: usize = 2048;
 const ENTRY: usize = 384;
 
 /// Entries that wait: the bytes of a block up to a place. And a block for a value.
-#[derive(Debug, Drop)]
+#[derive(Drop)]
 pub(crate) struct Waiting {
     pub block: [u8; BLOCK],
     pub at: usize,
@@ -65,7 +65,8 @@ impl Waiting {
         spn: u32,
         unit: &[u8],
     )
-        ensures { waiting_text self.new ≡ waiting_text self.old }
+        ensures text { waiting_text self.new ≡ waiting_text self.old }
+        ensures place { self.new.at ≡ self.old.at }
     {
         if known.can_learn(pgn, spn, unit) {
             self.missed = Missed::of(spn, unit);

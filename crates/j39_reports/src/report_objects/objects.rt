@@ -113,11 +113,12 @@ impl<'g, 't> EntryForm for ObjectForm<'g, 't> {
             &mut self.opening,
             &mut self.waiting,
         );
-        match groups.visit(heard.message.pgn, heard.message.payload, &mut objects, sink) {
+        let visited = groups.visit(heard.message.pgn, heard.message.payload, &mut objects, sink);
+        let Objects { lines, waiting, .. } = objects;
+        match visited {
             Ok(()) => {
-                let lines = objects.lines;
-                objects.waiting.put(sink)?;
-                self.waiting.teach(&mut self.known, heard.message.pgn);
+                waiting.put(sink)?;
+                waiting.teach(&mut self.known, heard.message.pgn);
                 Ok(lines)
             }
             Err(DeviceFault) => Err(DeviceFault),

@@ -109,11 +109,12 @@ impl<'g, 't> EntryForm for RecordForm<'g, 't> {
             &mut self.begin,
             &mut self.waiting,
         );
-        match groups.visit(heard.message.pgn, heard.message.payload, &mut records, sink) {
+        let visited = groups.visit(heard.message.pgn, heard.message.payload, &mut records, sink);
+        let Records { lines, waiting, .. } = records;
+        match visited {
             Ok(()) => {
-                let lines = records.lines;
-                records.waiting.put(sink)?;
-                self.waiting.teach(&mut self.known, heard.message.pgn);
+                waiting.put(sink)?;
+                waiting.teach(&mut self.known, heard.message.pgn);
                 Ok(lines)
             }
             Err(DeviceFault) => Err(DeviceFault),

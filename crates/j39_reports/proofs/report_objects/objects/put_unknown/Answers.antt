@@ -13,7 +13,7 @@ pub returns : goal.returns
 returns g c =
     let groups = c.args.known.now.groups.now in
     let value = value_of c.args.value in
-    gathers_all _ _ _ _ _ _ _ _ (ap (λ n. take n c.put_object.new.block) c.in_ok-put.ensures.none) c.in_ok-put.ensures.puts
+    gathers_all _ _ _ _ _ _ _ _ (ap (λ n. take n c.put_object.new.block) (c.miss.ensures.place ∙ c.in_ok-put.ensures.none)) c.in_ok-put.ensures.puts
     (puts_as _ _ _ _ ((λ i. opened c.args.opening.now (c.group_name-group.ensures i)
     ++ (parameter_members c.args.spn (c.called_in.ensures.parameter i) ++ value_members value (c.called_in.ensures.state i)))
     ∙ ap (λ pgn. opened c.args.opening.now (group_name_in groups (pgn_raw c.args.pgn))
