@@ -1,22 +1,15 @@
 //! The rows of a summary.
-ghost use Rattle.std.specs.Prelude.{◌≡◌, ◌++◌, ◌∷◌, [], List, OnOk, OnErr, IfOk, None};
+ghost use Rattle.std.specs.Prelude.{◌≡◌, Some};
+ghost use Rattle.std.specs.Map.{keys_of};
+ghost use Rattle.std.proofs.Props.{props};
 ghost use Rattle.j39_memory.specs.ByOrigin.{pairs_of};
-ghost use Rattle.j39_frame.specs.Origin.{place_in};
-ghost use Rattle.j39_frame.specs.Stamp.{stamp_micros};
-ghost use Rattle.j39_groups.specs.Models.{value_of};
-ghost use Rattle.j39_listen.specs.Report.{Entry};
-ghost use Rattle.j39_listen.specs.HeardModel.{hearing_of};
-ghost use Rattle.j39_frame.specs.declared.origin.Origin.{Origin};
-ghost use Rattle.j39_reports.specs.RowsSoFar.{AreCounted, AreRowsOf, HasTaken};
-ghost use Rattle.j39_reports.specs.MessageHeads.{origin_in};
-ghost use Rattle.j39_reports.specs.RowModels.{entry_at};
-ghost use Rattle.j39_reports.specs.SummaryRun.{WantsRow};
+ghost use Rattle.j39_reports.specs.Leads.{AreLed, LeadsHead, leads_of};
 
 use crate::summaries::absences::Absences;
 use crate::summaries::guesses::Guesses;
+use crate::summaries::leads::Leads;
 use crate::summaries::message_head::MessageHead;
 use crate::summaries::statistics::{AddedValue, Statistics};
-use j39_frame::{Origin, Stamp};
 use j39_groups::{ReadingVisitor, Value};
 use j39_listen::Heard;
 use j39_memory::ByOrigin;
@@ -31,9 +24,32 @@ pub(crate) struct Rows<'t> {
     pub absences: Absences,
     alloc: Global,
     head: MessageHead,
+    leads: Leads,
+    /// Where the row that leads those of the message's head stands, or [`NOWHERE`] while that isn't known.
+    lead: usize,
+    /// Where the row of the next value stands, if that is the row behind the last one's.
+    next: usize,
+    ghost led: { AreLed (keys_of (pairs_of rows)) (leads_of (pairs_of rows)) } by { Prim.hlevel props },
+    ghost leads_head: { LeadsHead (keys_of (pairs_of rows)) lead head } by { Prim.hlevel props },
 }
 
+/// A place where no row stands.
+const NOWHERE: usize = usize::MAX;
+
 impl<'t> Rows<'t> {
+    ghost use Rattle.std.specs.Prelude.{◌++◌, ◌∷◌, [], List, IfSome, OnOk, OnErr, None};
+    ghost use Rattle.j39_frame.specs.Origin.{place_in};
+    ghost use Rattle.j39_frame.specs.Stamp.{stamp_micros};
+    ghost use Rattle.j39_groups.specs.Models.{value_of};
+    ghost use Rattle.j39_listen.specs.Report.{Entry};
+    ghost use Rattle.j39_listen.specs.HeardModel.{hearing_of};
+    ghost use Rattle.j39_frame.specs.declared.origin.Origin.{Origin};
+    ghost use Rattle.j39_reports.specs.Leads.{AddsLead, KeepsLeads};
+    ghost use Rattle.j39_reports.specs.RowsSoFar.{AreCounted, AreRowsOf, HasTaken};
+    ghost use Rattle.j39_reports.specs.MessageHeads.{origin_in};
+    ghost use Rattle.j39_reports.specs.RowModels.{entry_at};
+    ghost use Rattle.j39_reports.specs.SummaryRun.{WantsRow};
+
     /// No rows.
     pub fn new(alloc: Global) -> Rows<'t>
         ensures rows { AreRowsOf (pairs_of result.rows) [] }
@@ -45,6 +61,9 @@ impl<'t> Rows<'t> {
             absences: Absences::new(alloc),
             alloc,
             head: MessageHead::new(),
+            leads: Leads::new(),
+            lead: NOWHERE,
+            next: NOWHERE,
         }
     }
 
@@ -56,76 +75,123 @@ impl<'t> Rows<'t> {
             → HasTaken (record { before = before; absent = absent; hearing = hearing_of heard.now }) self.new [] }
     {
         self.head = MessageHead::of(heard);
+        self.lead = known_lead(&self.rows, self.leads.place_of(&self.head), &self.head);
+        self.next = self.lead;
     }
-}
 
-/// Takes a value to its row, which stands at this place where there is one.
-#[inline(always)]
-fn take<'t>(
-    rows: &mut ByOrigin<Statistics<'t>>,
-    alloc: Global,
-    place: Option<usize>,
-    origin: Origin,
-    stamp: Stamp,
-    value: Value<'t, '_>,
-) -> Result<(), AllocError>
-    requires { place ≡ place_in (pairs_of rows.old) origin }
-    ensures taken { OnOk result ((before : List Entry) → AreRowsOf (pairs_of rows.old) before
-        → AreRowsOf (pairs_of rows.new)
-        (before ++ entry_at origin (stamp_micros stamp) (value_of value.entry) ∷ [])) }
-    ensures wanted { OnErr result ((before : List Entry) → AreRowsOf (pairs_of rows.old) before
-        → WantsRow before (entry_at origin (stamp_micros stamp) (value_of value.entry))) }
-{
-    match place {
-        Some(at) => rows.change(
-            at,
+    /// Where the row of the message's next value stands, where that is the next one: whether it is of the message's head
+    /// is told by its lead.
+    #[inline(always)]
+    fn next_place(&self, spn: u32) -> Option<usize>
+        ensures { IfSome result (λ place. place_in (pairs_of self.now.rows) (origin_in self.now.head spn) ≡ Some place) }
+    {
+        let place = self.next;
+        if place >= self.rows.len() {
+            return None;
+        }
+        let (origin, statistics) = self.rows.pair_at(place);
+        if statistics.lead == self.lead && origin.spn == spn {
+            Some(place)
+        } else {
+            None
+        }
+    }
+
+    /// Takes a value to its row wherever that stands, off the quick path.
+    #[inline(never)]
+    fn take_elsewhere(&mut self, spn: u32, value: Value<'t, '_>) -> Result<(), AllocError>
+        ensures head { self.new.head ≡ self.old.head }
+        ensures absences { self.new.absences ≡ self.old.absences }
+        ensures taken { OnOk result ((before : List Entry) → AreRowsOf (pairs_of self.old.rows) before
+            → AreRowsOf (pairs_of self.new.rows)
+            (before ++ entry_at (origin_in self.old.head spn) (stamp_micros self.old.head.stamp) (value_of value.entry) ∷ [])) }
+        ensures wanted { OnErr result ((before : List Entry) → AreRowsOf (pairs_of self.old.rows) before
+            → WantsRow before (entry_at (origin_in self.old.head spn) (stamp_micros self.old.head.stamp) (value_of value.entry))) }
+    {
+        let origin = self.head.origin(spn);
+        match self.guesses.place_of(&self.rows, origin) {
+            Some(place) => {
+                let (_, statistics) = self.rows.pair_at(place);
+                self.lead = statistics.lead;
+                self.leads.set(&self.head, self.lead);
+                self.next = place + 1;
+                Self::take(&mut self.rows, self.alloc, place, &self.head, spn, value)
+            }
+            None => {
+                let place = self.rows.len();
+                let lead = self.lead.min(place);
+                Self::add(&mut self.rows, self.alloc, lead, &self.head, spn, value)?;
+                self.lead = lead;
+                self.leads.set(&self.head, lead);
+                self.next = place + 1;
+                Ok(())
+            }
+        }
+    }
+
+    /// Takes a value to its row, which stands at this place.
+    #[inline(always)]
+    fn take(
+        rows: &mut ByOrigin<Statistics<'t>>,
+        alloc: Global,
+        place: usize,
+        head: &MessageHead,
+        spn: u32,
+        value: Value<'t, '_>,
+    ) -> Result<(), AllocError>
+        requires { place_in (pairs_of rows.old) (origin_in head.now spn) ≡ Some place }
+        ensures taken { OnOk result ((before : List Entry) → AreRowsOf (pairs_of rows.old) before
+            → AreRowsOf (pairs_of rows.new)
+            (before ++ entry_at (origin_in head.now spn) (stamp_micros head.now.stamp) (value_of value.entry) ∷ [])) }
+        ensures wanted { OnErr result ((before : List Entry) → AreRowsOf (pairs_of rows.old) before
+            → WantsRow before (entry_at (origin_in head.now spn) (stamp_micros head.now.stamp) (value_of value.entry))) }
+        ensures led { KeepsLeads (pairs_of rows.old) (pairs_of rows.new) }
+    {
+        let stamp = head.stamp;
+        rows.change(
+            place,
             AddedValue {
                 alloc,
                 stamp,
                 value,
             },
-        ),
-        None => add(rows, alloc, origin, stamp, value),
+        )
+    }
+
+    /// Begins a row, with where the row that leads it stands.
+    #[inline(never)]
+    fn add(
+        rows: &mut ByOrigin<Statistics<'t>>,
+        alloc: Global,
+        lead: usize,
+        head: &MessageHead,
+        spn: u32,
+        value: Value<'t, '_>,
+    ) -> Result<(), AllocError>
+        requires { place_in (pairs_of rows.old) (origin_in head.now spn) ≡ None }
+        ensures begun { OnOk result ((before : List Entry) → AreRowsOf (pairs_of rows.old) before
+            → AreRowsOf (pairs_of rows.new)
+            (before ++ entry_at (origin_in head.now spn) (stamp_micros head.now.stamp) (value_of value.entry) ∷ [])) }
+        ensures led { OnOk result (AddsLead lead (origin_in head.now spn) (pairs_of rows.old) (pairs_of rows.new)) }
+        ensures refused { OnErr result (pairs_of rows.new ≡ pairs_of rows.old) }
+    {
+        let statistics = Statistics::begin(alloc, lead, head.stamp, value)?;
+        rows.add(head.origin(spn), statistics)
     }
 }
 
-/// Begins a row.
-#[inline(never)]
-fn add<'t>(
-    rows: &mut ByOrigin<Statistics<'t>>,
-    alloc: Global,
-    origin: Origin,
-    stamp: Stamp,
-    value: Value<'t, '_>,
-) -> Result<(), AllocError>
-    requires { place_in (pairs_of rows.old) origin ≡ None }
-    ensures { OnOk result ((before : List Entry) → AreRowsOf (pairs_of rows.old) before
-        → AreRowsOf (pairs_of rows.new)
-        (before ++ entry_at origin (stamp_micros stamp) (value_of value.entry) ∷ [])) }
+/// Where the row that leads those of a message of this head stands: there, where one stands there.
+#[inline(always)]
+fn known_lead(rows: &ByOrigin<Statistics<'_>>, place: usize, head: &MessageHead) -> usize
+    ensures { LeadsHead (keys_of (pairs_of rows.now)) result head.now }
 {
-    let statistics = Statistics::begin(alloc, stamp, value)?;
-    rows.add(origin, statistics)
-}
-
-/// Takes a value to its row wherever that stands, off the quick path.
-#[inline(never)]
-fn take_elsewhere<'t>(
-    rows: &mut ByOrigin<Statistics<'t>>,
-    guesses: &mut Guesses,
-    alloc: Global,
-    head: &MessageHead,
-    spn: u32,
-    value: Value<'t, '_>,
-) -> Result<(), AllocError>
-    ensures taken { OnOk result ((before : List Entry) → AreRowsOf (pairs_of rows.old) before
-        → AreRowsOf (pairs_of rows.new)
-        (before ++ entry_at (origin_in head.now spn) (stamp_micros head.now.stamp) (value_of value.entry) ∷ [])) }
-    ensures wanted { OnErr result ((before : List Entry) → AreRowsOf (pairs_of rows.old) before
-        → WantsRow before (entry_at (origin_in head.now spn) (stamp_micros head.now.stamp) (value_of value.entry))) }
-{
-    let origin = head.origin(spn);
-    let place = guesses.place_of(rows, origin);
-    take(rows, alloc, place, origin, head.stamp, value)
+    if place < rows.len() {
+        let (origin, _) = rows.pair_at(place);
+        if origin == head.origin(origin.spn) {
+            return place;
+        }
+    }
+    NOWHERE
 }
 
 impl<'t> ReadingVisitor<'t, ()> for Rows<'t> {
@@ -141,27 +207,12 @@ impl<'t> ReadingVisitor<'t, ()> for Rows<'t> {
 
     #[inline(always)]
     fn visit(&mut self, spn: u32, value: Value<'t, '_>, _: &mut ()) -> Result<(), AllocError> {
-        let origin = self.head.origin(spn);
-        match self.guesses.known_place(&self.rows, origin) {
+        match self.next_place(spn) {
             Some(place) => {
-                let stamp = self.head.stamp;
-                take(
-                    &mut self.rows,
-                    self.alloc,
-                    Some(place),
-                    origin,
-                    stamp,
-                    value,
-                )
+                self.next = place + 1;
+                Self::take(&mut self.rows, self.alloc, place, &self.head, spn, value)
             }
-            None => take_elsewhere(
-                &mut self.rows,
-                &mut self.guesses,
-                self.alloc,
-                &self.head,
-                spn,
-                value,
-            ),
+            None => self.take_elsewhere(spn, value),
         }
     }
 

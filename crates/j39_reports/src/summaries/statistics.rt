@@ -40,17 +40,21 @@ pub(crate) struct Statistics<'t> {
     pub first: Sample<'t>,
     pub last: Sample<'t>,
     pub range: Option<NumberRange<'t>>,
+    /// Where the row stands that leads those of its sender, destination, NAME and group.
+    pub lead: usize,
 }
 
 impl<'t> Statistics<'t> {
     /// Those of one value. Only a text takes memory.
     pub fn begin(
         alloc: Global,
+        lead: usize,
         stamp: Stamp,
         value: Value<'t, '_>,
     ) -> Result<Statistics<'t>, AllocError>
         ensures begun { IfOk result (λ statistics. (origin : Origin)
             → row_shown (origin, statistics) ≡ begun (entry_at origin (stamp_micros stamp) (value_of value.entry))) }
+        ensures lead { IfOk result (λ statistics. statistics.lead ≡ lead) }
         ensures wanted { OnErr result (IsText (value_of value.entry)) }
     {
         let first = StoredValue::of(alloc, value)?;
@@ -64,6 +68,7 @@ impl<'t> Statistics<'t> {
             },
             last: Sample { stamp, value: last },
             range: span_of(value),
+            lead,
         })
     }
 
@@ -78,6 +83,7 @@ impl<'t> Statistics<'t> {
         ensures grown { OnOk result ((origin : Origin) → row_shown (origin, self.new)
             ≡ grown (row_shown (origin, self.old)) (entry_at origin (stamp_micros stamp) (value_of value.entry))) }
         ensures wanted { OnErr result (IsText (value_of value.entry)) }
+        ensures lead { self.new.lead ≡ self.old.lead }
     {
         // The number comes first and has its way for itself, as most values are one.
         if let Value::Number(number, scale) = value {
@@ -92,9 +98,10 @@ impl<'t> Statistics<'t> {
     /// One number more.
     #[inline(always)]
     fn grow_by_number(&mut self, stamp: Stamp, value: i64, scale: Slot<'t>)
-        ensures { (origin : Origin) → row_shown (origin, self.new)
+        ensures grown { (origin : Origin) → row_shown (origin, self.new)
             ≡ grown (row_shown (origin, self.old))
             (entry_at origin (stamp_micros stamp) (number value (scale_record scale.entry))) }
+        ensures lead { self.new.lead ≡ self.old.lead }
     {
         widen(&mut self.range, value, scale);
         self.put(stamp, StoredValue::Number(value, scale), false);
@@ -108,6 +115,7 @@ impl<'t> Statistics<'t> {
         ensures first { self.new.first ≡ self.old.first }
         ensures last { self.new.last ≡ record { stamp = stamp; value = value.entry } }
         ensures range { self.new.range ≡ self.old.range }
+        ensures lead { self.new.lead ≡ self.old.lead }
     {
         self.count = self.count.saturating_add(1);
         self.words = self.words.saturating_add(u64::from(is_word));
@@ -124,13 +132,13 @@ pub(crate) struct AddedValue<'t, 'v> {
 }
 
 impl<'t, 'v> OriginChange<Statistics<'t>> for AddedValue<'t, 'v> {
-    ghost use Rattle.std.specs.Prelude.{OnErr, OnOk};
+    ghost use Rattle.std.specs.Prelude.{◌≡◌, OnErr, OnOk};
     ghost use Rattle.j39_groups.specs.Models.{value_of};
     ghost use Rattle.j39_reports.specs.RowsSoFar.{HasGrown};
     ghost use Rattle.j39_reports.specs.SummaryRun.{IsText};
 
     ghost changes = { λ more old result new. OnOk result (HasGrown old (stamp_micros more.stamp)
-        (value_of more.value) new) × OnErr result (IsText (value_of more.value)) };
+        (value_of more.value) new) × (OnErr result (IsText (value_of more.value)) × (new.lead ≡ old.lead)) };
 
     #[inline(always)]
     fn make(self, statistics: &mut Statistics<'t>) -> Result<(), AllocError> {
