@@ -3,7 +3,7 @@ ghost use Rattle.std.specs.Prelude.{◌≡◌, ◌+◌, None, OnErr, OnOk, IfOk,
 ghost use Rattle.std.specs.Option.{option_map};
 ghost use Rattle.j39_frame.specs.Stamp.{stamp_micros};
 ghost use Rattle.j39_groups.specs.Models.{scale_record, value_of};
-ghost use Rattle.j39_groups.specs.Value.{number};
+ghost use Rattle.j39_groups.specs.Value.{number, text as text_value};
 ghost use Rattle.j39_listen.specs.Counting.{capped};
 ghost use Rattle.j39_reports.specs.RowsSoFar.{begun, grown, one_if, widened};
 ghost use Rattle.j39_reports.specs.RowModels.{entry_at, range_of_span, row_shown};
@@ -11,7 +11,7 @@ ghost use Rattle.j39_reports.specs.SummaryRun.{IsText};
 ghost use Rattle.j39_reports.specs.Summary.{are_comparable, is_word_value, number_in};
 ghost use Rattle.j39_frame.specs.declared.origin.Origin.{Origin};
 
-use crate::summaries::stored_value::StoredValue;
+use crate::summaries::stored_value::{StoredValue, copy_of};
 use j39_frame::Stamp;
 use j39_groups::{Slot, Value};
 use j39_memory::OriginChange;
@@ -85,13 +85,27 @@ impl<'t> Statistics<'t> {
         ensures wanted { OnErr result (IsText (value_of value.entry)) }
         ensures lead { self.new.lead ≡ self.old.lead }
     {
-        // The number comes first and has its way for itself, as most values are one.
-        if let Value::Number(number, scale) = value {
-            self.grow_by_number(stamp, number, scale);
-            return Ok(());
+        match value {
+            Value::Number(number, scale) => self.grow_by_number(stamp, number, scale),
+            Value::On => self.put(stamp, StoredValue::On, false),
+            Value::Off => self.put(stamp, StoredValue::Off, false),
+            Value::Error => self.put(stamp, StoredValue::Error, true),
+            Value::Reserved => self.put(stamp, StoredValue::Reserved, true),
+            Value::Indicator => self.put(stamp, StoredValue::Indicator, true),
+            Value::Text(text) => return self.grow_by_text(alloc, stamp, text),
         }
-        let last = StoredValue::of(alloc, value)?;
-        self.put(stamp, last, is_word(value));
+        Ok(())
+    }
+
+    /// One text more, off the quick path.
+    #[inline(never)]
+    fn grow_by_text(&mut self, alloc: Global, stamp: Stamp, text: &[u8]) -> Result<(), AllocError>
+        ensures grown { OnOk result ((origin : Origin) → row_shown (origin, self.new)
+            ≡ grown (row_shown (origin, self.old)) (entry_at origin (stamp_micros stamp) (text_value text.now))) }
+        ensures lead { self.new.lead ≡ self.old.lead }
+    {
+        let copy = copy_of(alloc, text)?;
+        self.put(stamp, StoredValue::Text(copy), false);
         Ok(())
     }
 
@@ -104,7 +118,7 @@ impl<'t> Statistics<'t> {
         ensures lead { self.new.lead ≡ self.old.lead }
     {
         widen(&mut self.range, value, scale);
-        self.put(stamp, StoredValue::Number(value, scale), false);
+        self.put(stamp, StoredValue::Number(value, scale_alone(scale)), false);
     }
 
     /// The last value is another one, and counts.
@@ -119,7 +133,8 @@ impl<'t> Statistics<'t> {
     {
         self.count = self.count.saturating_add(1);
         self.words = self.words.saturating_add(u64::from(is_word));
-        self.last = Sample { stamp, value };
+        self.last.stamp = stamp;
+        self.last.value.set(value);
     }
 }
 
@@ -185,6 +200,14 @@ fn are_comparable(a: Slot<'_>, b: Slot<'_>) -> bool
     a.places() == b.places() && a.unit() == b.unit()
 }
 
+/// The same scale, field by field: so what lies between its fields is not copied with each value.
+#[inline(always)]
+fn scale_alone(scale: Slot<'_>) -> Slot<'_>
+    ensures { scale_record result ≡ scale_record scale.entry }
+{
+    Slot::of_own_table(scale.step(), scale.offset(), scale.places(), scale.unit())
+}
+
 /// The range has a number more.
 #[inline(always)]
 fn widen<'t>(range: &mut Option<NumberRange<'t>>, number: i64, scale: Slot<'t>)
@@ -218,7 +241,18 @@ impl<'t> NumberRange<'t> {
             (Some (record { value = number; slot = scale_record scale.entry })) }
     {
         // Most numbers lie within, whatever they are compared with.
-        if (number < self.least || self.most < number) && are_comparable(self.scale, scale) {
+        if number < self.least || self.most < number {
+            self.move_bounds(number, scale);
+        }
+    }
+
+    /// A bound moves to a number, where that can be compared with the first.
+    #[inline(never)]
+    fn move_bounds(&mut self, number: i64, scale: Slot<'t>)
+        ensures { Some (range_of_span self.new) ≡ widened (Some (range_of_span self.old))
+            (Some (record { value = number; slot = scale_record scale.entry })) }
+    {
+        if are_comparable(self.scale, scale) {
             self.least = self.least.min(number);
             self.most = self.most.max(number);
         }
