@@ -2,6 +2,7 @@
 ghost use Rattle.std.specs.Prelude.{◌≡◌, Some};
 ghost use Rattle.std.specs.Map.{keys_of};
 ghost use Rattle.std.proofs.Props.{props};
+ghost use Rattle.j39_groups.specs.Models.{value_of};
 ghost use Rattle.j39_memory.specs.ByOrigin.{pairs_of};
 ghost use Rattle.j39_reports.specs.Leads.{AreLed, LeadsHead, leads_of};
 
@@ -10,7 +11,7 @@ use crate::summaries::guesses::Guesses;
 use crate::summaries::leads::Leads;
 use crate::summaries::message_head::MessageHead;
 use crate::summaries::statistics::{AddedValue, Statistics};
-use j39_groups::{ReadingVisitor, Value};
+use j39_groups::{ReadingVisitor, Slot, Value};
 use j39_listen::Heard;
 use j39_memory::ByOrigin;
 use std::alloc::{AllocError, Global};
@@ -40,7 +41,6 @@ impl<'t> Rows<'t> {
     ghost use Rattle.std.specs.Prelude.{◌++◌, ◌∷◌, [], List, IfSome, OnOk, OnErr, None};
     ghost use Rattle.j39_frame.specs.Origin.{place_in};
     ghost use Rattle.j39_frame.specs.Stamp.{stamp_micros};
-    ghost use Rattle.j39_groups.specs.Models.{value_of};
     ghost use Rattle.j39_listen.specs.Report.{Entry};
     ghost use Rattle.j39_listen.specs.HeardModel.{hearing_of};
     ghost use Rattle.j39_frame.specs.declared.origin.Origin.{Origin};
@@ -194,6 +194,20 @@ fn known_lead(rows: &ByOrigin<Statistics<'_>>, place: usize, head: &MessageHead)
     NOWHERE
 }
 
+/// The same value, its scale field by field: so what lies between a scale's fields is not copied with each value.
+#[inline(always)]
+fn fields_of<'t, 'v>(value: Value<'t, 'v>) -> Value<'t, 'v>
+    ensures { value_of result ≡ value_of value.entry }
+{
+    match value {
+        Value::Number(number, scale) => Value::Number(
+            number,
+            Slot::of_own_table(scale.step(), scale.offset(), scale.places(), scale.unit()),
+        ),
+        other => other,
+    }
+}
+
 impl<'t> ReadingVisitor<'t, ()> for Rows<'t> {
     ghost use Rattle.j39_reports.specs.RowsSoFar.{HasTaken, Message, WantsAt};
 
@@ -207,6 +221,7 @@ impl<'t> ReadingVisitor<'t, ()> for Rows<'t> {
 
     #[inline(always)]
     fn visit(&mut self, spn: u32, value: Value<'t, '_>, _: &mut ()) -> Result<(), AllocError> {
+        let value = fields_of(value);
         match self.next_place(spn) {
             Some(place) => {
                 self.next = place + 1;

@@ -118,7 +118,7 @@ impl<'t> Statistics<'t> {
         ensures lead { self.new.lead ≡ self.old.lead }
     {
         widen(&mut self.range, value, scale);
-        self.put(stamp, StoredValue::Number(value, scale_alone(scale)), false);
+        self.put(stamp, StoredValue::Number(value, scale), false);
     }
 
     /// The last value is another one, and counts.
@@ -198,14 +198,6 @@ fn are_comparable(a: Slot<'_>, b: Slot<'_>) -> bool
     ensures { result ≡ are_comparable (scale_record a.entry) (scale_record b.entry) }
 {
     a.places() == b.places() && a.unit() == b.unit()
-}
-
-/// The same scale, field by field: so what lies between its fields is not copied with each value.
-#[inline(always)]
-fn scale_alone(scale: Slot<'_>) -> Slot<'_>
-    ensures { scale_record result ≡ scale_record scale.entry }
-{
-    Slot::of_own_table(scale.step(), scale.offset(), scale.places(), scale.unit())
 }
 
 /// The range has a number more.
