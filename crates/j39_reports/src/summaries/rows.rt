@@ -30,6 +30,9 @@ pub(crate) struct Rows<'t> {
     lead: usize,
     /// Where the row of the next value stands, if that is the row behind the last one's.
     next: usize,
+    /// Whether memory was refused since the message began: then what is here is no summary any more. It is asked once a
+    /// message, and not with each value.
+    pub is_refused: bool,
     ghost led: { AreLed (keys_of (pairs_of rows)) (leads_of (pairs_of rows)) } by { Prim.hlevel props },
     ghost leads_head: { LeadsHead (keys_of (pairs_of rows)) lead head } by { Prim.hlevel props },
 }
@@ -38,7 +41,7 @@ pub(crate) struct Rows<'t> {
 const NOWHERE: usize = usize::MAX;
 
 impl<'t> Rows<'t> {
-    ghost use Rattle.std.specs.Prelude.{◌++◌, ◌∷◌, [], List, IfSome, OnOk, OnErr, None};
+    ghost use Rattle.std.specs.Prelude.{◌++◌, ◌∷◌, [], List, IfSome, OnOk, OnErr, None, false};
     ghost use Rattle.j39_frame.specs.Origin.{place_in};
     ghost use Rattle.j39_frame.specs.Stamp.{stamp_micros};
     ghost use Rattle.j39_listen.specs.Report.{Entry};
@@ -64,19 +67,22 @@ impl<'t> Rows<'t> {
             leads: Leads::new(),
             lead: NOWHERE,
             next: NOWHERE,
+            is_refused: false,
         }
     }
 
     /// Takes what the readings of a message have in common.
     #[inline(always)]
     pub fn begin(&mut self, heard: &Heard<'_>)
-        ensures { (before : List Entry) (absent : List Origin) → AreRowsOf (pairs_of self.old.rows) before
+        ensures taken { (before : List Entry) (absent : List Origin) → AreRowsOf (pairs_of self.old.rows) before
             → AreCounted (pairs_of self.old.absences.counts) absent
             → HasTaken (record { before = before; absent = absent; hearing = hearing_of heard.now }) self.new [] }
+        ensures free { self.new.is_refused ≡ false }
     {
         self.head = MessageHead::of(heard);
         self.lead = known_lead(&self.rows, self.leads.place_of(&self.head), &self.head);
         self.next = self.lead;
+        self.is_refused = false;
     }
 
     /// Where the row of the message's next value stands, where that is the next one: whether it is of the message's head
@@ -97,11 +103,33 @@ impl<'t> Rows<'t> {
         }
     }
 
+    /// Takes a value to its row.
+    #[inline(always)]
+    fn take_value(&mut self, spn: u32, value: Value<'t, '_>) -> Result<(), AllocError>
+        ensures head { self.new.head ≡ self.old.head }
+        ensures absences { self.new.absences ≡ self.old.absences }
+        ensures refused { self.new.is_refused ≡ self.old.is_refused }
+        ensures taken { OnOk result ((before : List Entry) → AreRowsOf (pairs_of self.old.rows) before
+            → AreRowsOf (pairs_of self.new.rows)
+            (before ++ entry_at (origin_in self.old.head spn) (stamp_micros self.old.head.stamp) (value_of value.entry) ∷ [])) }
+        ensures wanted { OnErr result ((before : List Entry) → AreRowsOf (pairs_of self.old.rows) before
+            → WantsRow before (entry_at (origin_in self.old.head spn) (stamp_micros self.old.head.stamp) (value_of value.entry))) }
+    {
+        match self.next_place(spn) {
+            Some(place) => {
+                self.next = place + 1;
+                Self::take(&mut self.rows, self.alloc, place, &self.head, spn, value)
+            }
+            None => self.take_elsewhere(spn, value),
+        }
+    }
+
     /// Takes a value to its row wherever that stands, off the quick path.
     #[inline(never)]
     fn take_elsewhere(&mut self, spn: u32, value: Value<'t, '_>) -> Result<(), AllocError>
         ensures head { self.new.head ≡ self.old.head }
         ensures absences { self.new.absences ≡ self.old.absences }
+        ensures refused { self.new.is_refused ≡ self.old.is_refused }
         ensures taken { OnOk result ((before : List Entry) → AreRowsOf (pairs_of self.old.rows) before
             → AreRowsOf (pairs_of self.new.rows)
             (before ++ entry_at (origin_in self.old.head spn) (stamp_micros self.old.head.stamp) (value_of value.entry) ∷ [])) }
@@ -204,35 +232,45 @@ fn fields_of<'t, 'v>(value: Value<'t, 'v>) -> Value<'t, 'v>
             number,
             Slot::of_own_table(scale.step(), scale.offset(), scale.places(), scale.unit()),
         ),
-        other => other,
+        Value::On => Value::On,
+        Value::Off => Value::Off,
+        Value::Error => Value::Error,
+        Value::Reserved => Value::Reserved,
+        Value::Indicator => Value::Indicator,
+        Value::Text(text) => Value::Text(text),
     }
 }
 
 impl<'t> ReadingVisitor<'t, ()> for Rows<'t> {
-    ghost use Rattle.j39_reports.specs.RowsSoFar.{HasTaken, Message, WantsAt};
+    ghost use Rattle.j39_reports.specs.RowsSoFar.{GoesOn, Message, WantsAt};
 
     type Fault = AllocError;
 
     ghost Subject = { Message };
 
-    ghost has_taken = { λ message rows medium. HasTaken message rows };
+    ghost has_taken = { λ message rows medium. GoesOn message rows };
 
     ghost has_stopped = { λ message before at rows medium. WantsAt message before at };
 
     #[inline(always)]
     fn visit(&mut self, spn: u32, value: Value<'t, '_>, _: &mut ()) -> Result<(), AllocError> {
-        let value = fields_of(value);
-        match self.next_place(spn) {
-            Some(place) => {
-                self.next = place + 1;
-                Self::take(&mut self.rows, self.alloc, place, &self.head, spn, value)
+        match self.take_value(spn, fields_of(value)) {
+            Ok(()) => Ok(()),
+            Err(AllocError) => {
+                self.is_refused = true;
+                Ok(())
             }
-            None => self.take_elsewhere(spn, value),
         }
     }
 
     fn visit_absent(&mut self, spn: u32, _: &mut ()) -> Result<(), AllocError> {
         let origin = self.head.origin(spn);
-        self.absences.count(origin)
+        match self.absences.count(origin) {
+            Ok(()) => Ok(()),
+            Err(AllocError) => {
+                self.is_refused = true;
+                Ok(())
+            }
+        }
     }
 }
