@@ -96,7 +96,7 @@ impl<'t> Rows<'t> {
             return None;
         }
         let (origin, statistics) = self.rows.pair_at(place);
-        if statistics.lead == self.lead && origin.spn == spn {
+        if origin.spn == spn && statistics.lead == self.lead {
             Some(place)
         } else {
             None
