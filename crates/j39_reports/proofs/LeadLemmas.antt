@@ -1,5 +1,5 @@
 -- Rows that lead others.
-use Rattle.j39_reports.proofs.Common.{◌≡◌, ◌<◌, ◌≤◌, ◌+◌, ◌∷◌, ◌++◌, [], ℕ, zero, suc, true, List, Option, Some, arith, get_or, length, length-append, length-map, map, map-append, refl, sym, ap, ◌∙◌, subst, inl, inr, unwrap_or, slice_get, slice_set, keys_of, option_map, is_same, place_in, Origin, same_self, same_true, stands, get_or_from_slice_get}
+use Rattle.j39_reports.proofs.Common.{◌≡◌, ◌<◌, ◌≤◌, ◌+◌, ◌∷◌, ◌++◌, [], ℕ, zero, suc, true, List, Some, arith, get_or, length, length-append, length-map, map-append, refl, sym, ap, ◌∙◌, subst, inl, inr, unwrap_or, slice_get, slice_set, keys_of, option_map, is_same, place_in, Origin, same_self, same_true, get_or_from_slice_get}
 use Rattle.std.proofs.lemmas.Bool.{cases_lt}
 use Rattle.std.proofs.lemmas.Option.{slice_get-map, slice_get_within}
 use Rattle.std.proofs.Math.ListN.{get_or-append}

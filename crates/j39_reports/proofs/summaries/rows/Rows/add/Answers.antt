@@ -1,5 +1,5 @@
 -- The row goes last.
-use Rattle.j39_reports.proofs.Common.{◌≡◌, ◌∙◌, ◌∷◌, ◌++◌, [], ap, Origin, pairs_of, stamp_micros, on_ok_from, value_of}
+use Rattle.j39_reports.proofs.Common.{◌∙◌, ◌∷◌, ◌++◌, [], ap, Origin, pairs_of, stamp_micros, on_ok_from, value_of}
 use Rattle.j39_reports.proofs.HeldLemmas.{begins}
 use Rattle.j39_reports.proofs.LeadLemmas.{adds}
 use Rattle.j39_reports.specs.MessageHeads.{origin_in}

@@ -1,5 +1,5 @@
 -- The reading goes to its row, and what is not available stays; or memory was refused.
-use Rattle.j39_reports.proofs.Common.{◌≡◌, ◌∙◌, ◌∷◌, ◌++◌, [], ap, on_ok, inl, inr, refl, true, false, List, pairs_of, stamp_micros, subst, told, Entry, SightingRecord, ReadingRecord, ValueRecord, entry_of}
+use Rattle.j39_reports.proofs.Common.{◌≡◌, ◌∙◌, ◌∷◌, ◌++◌, [], ap, inl, inr, refl, true, List, pairs_of, stamp_micros, subst, told, Entry, SightingRecord, ReadingRecord, ValueRecord, entry_of}
 use Rattle.j39_reports.specs.RowModels.{entry_at}
 use Rattle.j39_reports.specs.RowsSoFar.{AreRowsOf, GoesOn, HasTaken, Message}
 use Rattle.j39_reports.specs.SummaryRun.{WantsRow}

@@ -1,5 +1,5 @@
 -- It is counted, and the rows stay; or memory was refused.
-use Rattle.j39_reports.proofs.Common.{◌≡◌, ◌++◌, ◌∙◌, ap, inl, inr, refl, sym, subst, false, map, pairs_of, absent, absent_in, is_same, Origin, list_any}
+use Rattle.j39_reports.proofs.Common.{◌≡◌, ◌++◌, ◌∙◌, ap, inl, inr, refl, sym, subst, map, pairs_of, absent, absent_in, is_same, Origin, list_any}
 use Rattle.j39_reports.specs.Summary.{absence_of}
 use Rattle.j39_reports.proofs.HeadLemmas.{absence_with}
 use Rattle.j39_reports.proofs.TakenLemmas.{counts_take, refused_more, refused_now, told_same}
