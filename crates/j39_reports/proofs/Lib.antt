@@ -12,6 +12,7 @@ pub mod OriginLemmas
 pub mod FirstLemmas
 pub mod RowLemmas
 pub mod HeldLemmas
+pub mod LeadLemmas
 pub mod AbsenceLemmas
 pub mod TakenLemmas
 pub mod HeadLemmas

@@ -1,8 +1,8 @@
 -- The summary as an account: what is heard at one frame more, and its end.
-use Rattle.j39_reports.proofs.Common.{Bor, ◌≡◌, ◌<◌, ◌+◌, ◌^◌, ℕ, List, [], ◌∷◌, ◌++◌, Option, Some, None, true, false, length, map, sym, ap, ◌∙◌, subst, arith, append-nil, length-append, inl, inr, refl, ◌⊎◌, flat_map, Appends, Appends-nil, flat_map-append, length-map, map-append, filter-append, filter_map-append, pairs_of, AppendsFront, FrameRecord, is_reported_in, SightingRecord, absent, absent_by, absent_in, sightings_in, told, told_by, told_in, RowRecord, Takes, absent_are, told_are, Begins, Closes, MakesOne, Meets, StopsAtEnd, capped, Chooses, FilterRecord, first_stamp, messages_taken, takes_message, AreHeard, HeardAt, Hearing, or_none, Hears, Output, Entry, entries_of, entry_of, Chooser, Listener, heard_more, capped-fits, reported_leaves, heard_below_unique, Origin, Format, Record}
-use Rattle.j39_groups.specs.Visits.{Stops}
+use Rattle.j39_reports.proofs.Common.{Bor, ◌≡◌, ◌<◌, ◌+◌, ◌^◌, ℕ, List, [], ◌∷◌, ◌++◌, Option, Some, None, true, false, true≢false, length, map, sym, ap, ◌∙◌, subst, arith, append-nil, length-append, inl, inr, refl, ◌⊎◌, flat_map, Appends, Appends-nil, flat_map-append, length-map, map-append, filter-append, filter_map-append, pairs_of, AppendsFront, FrameRecord, is_reported_in, SightingRecord, absent, absent_by, absent_in, sightings_in, told, told_by, told_in, RowRecord, Takes, absent_are, told_are, Begins, Closes, MakesOne, Meets, StopsAtEnd, capped, Chooses, FilterRecord, first_stamp, messages_taken, takes_message, AreHeard, HeardAt, Hearing, or_none, Hears, Output, Entry, entries_of, entry_of, Chooser, Listener, heard_more, capped-fits, reported_leaves, heard_below_unique, Origin, Format, Record}
+use Rattle.j39_groups.specs.Visits.{StopsAt}
 use Rattle.j39_reports.specs.SummarySoFar.{HasSummed, NotesFrame}
-use Rattle.j39_reports.specs.RowsSoFar.{AreCounted, AreRowsOf, HasTaken, Message, WantsAt, counted}
+use Rattle.j39_reports.specs.RowsSoFar.{AreCounted, AreRowsOf, GoesOn, HasTaken, Message, WantsAt, counted}
 use Rattle.j39_reports.specs.Summary.{absence_of, absences_of, how_often}
 use Rattle.j39_reports.specs.RowText.{summary_columns, summary_text}
 use Rattle.j39_reports.specs.RowModels.{row_shown}
@@ -41,6 +41,22 @@ one_taken which first h is = rw is refl
 pub none_taken : (which : FilterRecord) (first : ℕ) (h : Hearing) → takes_message which first h ≡ false → messages_taken which first (h ∷ []) ≡ []
 none_taken which first h is = rw is refl
 
+-- ---- what the rows have taken
+
+all_taken : (message : Message) (rows : Rows) (sightings : List SightingRecord) → GoesOn message rows sightings → rows.is_refused ≡ false
+    → HasTaken message rows sightings
+all_taken message rows sightings goes free = elim goes [
+  | inl has ↦ has.0
+  | inr was ↦ absurd (true≢false (sym was.is_refused ∙ free))
+]
+
+pub where_refused : (message : Message) (rows : Rows) (sightings : List SightingRecord) → GoesOn message rows sightings → rows.is_refused ≡ true
+    → StopsAt (WantsAt message) [] sightings
+where_refused message rows sightings goes refused = elim goes [
+  | inl has ↦ absurd (true≢false (sym refused ∙ has.1))
+  | inr was ↦ was.stop
+]
+
 -- ---- one frame
 
 pub notes_silent : (which : FilterRecord) (groups : List RowRecord) (l' : Listener) (F : List FrameRecord) (f : FrameRecord) (rows : Rows) (before : List Entry) (gone : List Origin)
@@ -75,11 +91,12 @@ notes_left which groups l' F f h rows before gone at hears is are counts =
 
 pub notes_heard : (which : FilterRecord) (groups : List RowRecord) (l' : Listener) (F : List FrameRecord) (f : FrameRecord) (h : Hearing) (begun rows : Rows) (before : List Entry) (gone : List Origin)
     → HeardAt groups (F ++ f ∷ []) (length F) (Some h) → Hears l' (F ++ f ∷ []) → takes_message which (first_stamp (F ++ f ∷ [])) h ≡ true
-    → HasTaken (record { before = before; absent = gone; hearing = h }) begun []
-    → Takes {M = Unit {0}} (λ message rows medium. HasTaken message rows) begun tt rows tt (sightings_in groups h.message.pgn h.message.bytes) → NotesFrame which groups F f l' rows before gone 1
-notes_heard which groups l' F f h begun rows before gone at hears is begins takes =
+    → HasTaken (record { before = before; absent = gone; hearing = h }) begun [] → begun.is_refused ≡ false
+    → Takes {M = Unit {0}} (λ message rows medium. GoesOn message rows) begun tt rows tt (sightings_in groups h.message.pgn h.message.bytes) → rows.is_refused ≡ false
+    → NotesFrame which groups F f l' rows before gone 1
+notes_heard which groups l' F f h begun rows before gone at hears is begins free takes still =
     let message : Message = record { before = before; absent = gone; hearing = h } in
-    let taken = takes message [] begins in
+    let taken = all_taken message rows (sightings_in groups h.message.pgn h.message.bytes) (takes message [] (inl (begins, free))) still in
     let one = one_taken which (first_stamp (F ++ f ∷ [])) h is in
     let told = ap (map (entry_of h)) (told_are groups h.message.pgn h.message.bytes) in
     let not_there = ap (map (absence_of h)) (absent_are groups h.message.pgn h.message.bytes) in
@@ -94,13 +111,11 @@ notes_heard which groups l' F f h begun rows before gone at hears is begins take
       messages_are = refl;
     }
 
-pub asks_heard : (which : FilterRecord) (groups : List RowRecord) (F : List FrameRecord) (f : FrameRecord) (h : Hearing) (heard : List Hearing) (begun rows : Rows)
+pub asks_heard : (which : FilterRecord) (groups : List RowRecord) (F : List FrameRecord) (f : FrameRecord) (h : Hearing) (heard : List Hearing)
     → HeardAt groups (F ++ f ∷ []) (length F) (Some h) → AreHeard groups F heard → takes_message which (first_stamp (F ++ f ∷ [])) h ≡ true
-    → HasTaken (record { before = flat_map (entries_of groups) (messages_taken which (first_stamp F) heard); absent = flat_map (absences_of groups) (messages_taken which (first_stamp F) heard); hearing = h }) begun []
-    → Stops {M = Unit {0}} (λ message rows medium. HasTaken message rows) (λ message before at rows medium. WantsAt message before at) begun tt rows tt (sightings_in groups h.message.pgn h.message.bytes) → AsksForRows which groups F f
-asks_heard which groups F f h heard begun rows at are_heard is begins stops =
-    let w = stops message [] begins in
-    inr (by w.taken w.at w.rest w.sightings_are w.stopped)
+    → StopsAt (WantsAt (record { before = flat_map (entries_of groups) (messages_taken which (first_stamp F) heard); absent = flat_map (absences_of groups) (messages_taken which (first_stamp F) heard); hearing = h }))
+    [] (sightings_in groups h.message.pgn h.message.bytes) → AsksForRows which groups F f
+asks_heard which groups F f h heard at are_heard is w = inr (by w.taken w.at w.rest w.sightings_are w.stopped)
   where
     message : Message
     message = record { before = flat_map (entries_of groups) (messages_taken which (first_stamp F) heard); absent = flat_map (absences_of groups) (messages_taken which (first_stamp F) heard); hearing = h }

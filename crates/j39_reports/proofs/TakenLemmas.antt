@@ -1,7 +1,8 @@
 -- What was told of a message, with one reading more, or one parameter that is not available.
-use Rattle.j39_reports.proofs.Common.{◌≡◌, ◌∷◌, ◌++◌, [], ℕ, List, append-nil, append_assoc, map, subst, sym, ap, ◌∙◌, map-append, filter_map-append, Origin, SightingRecord, absent, absent_by, absent_in, told, told_by, told_in, ReadingRecord, Entry, entry_of}
+use Rattle.j39_reports.proofs.Common.{◌≡◌, ◌∷◌, ◌++◌, [], ℕ, List, refl, true, append-nil, append_assoc, map, subst, sym, ap, ◌∙◌, map-append, filter_map-append, Origin, SightingRecord, absent, absent_by, absent_in, told, told_by, told_in, ReadingRecord, Entry, entry_of}
 use Rattle.j39_listen.specs.Heard.{Hearing}
-use Rattle.j39_reports.specs.RowsSoFar.{AreCounted, Message}
+use Rattle.j39_reports.specs.RowsSoFar.{AreCounted, Message, WantsAt, WasRefused}
+use Rattle.j39_reports.specs.declared.summaries.rows.Rows.{Rows}
 use Rattle.j39_reports.specs.Summary.{absence_of}
 
 module _ (behind : List Entry) (h : Hearing) (before : List SightingRecord) where
@@ -32,3 +33,27 @@ module _ (message : Message) (before : List SightingRecord) where
       let more = ap (map (absence_of message.hearing)) (filter_map-append absent_by before (absent spn ∷ [])) ∙ map-append (absence_of message.hearing) (absent_in before) (spn ∷ []) in
       subst (AreCounted pairs) (append_assoc message.absent (map (absence_of message.hearing) (absent_in before)) (o ∷ [])
       ∙ ap (λ x. message.absent ++ (map (absence_of message.hearing) (absent_in before) ++ x ∷ [])) is ∙ ap (λ os. message.absent ++ os) (sym more)) are
+
+-- ---- where memory was refused
+
+pub refused_now : (message : Message) (new : Rows) (before : List SightingRecord) (s : SightingRecord) → new.is_refused ≡ true → WantsAt message before s
+    → WasRefused message new (before ++ s ∷ [])
+refused_now message new before s refused wants = record {
+  is_refused = refused;
+  stop = record { taken = before; at = s; rest = []; sightings_are = refl; stopped = wants };
+}
+
+pub refused_more : (message : Message) (old new : Rows) (before : List SightingRecord) (s : SightingRecord) → new.is_refused ≡ true
+    → WasRefused message old before → WasRefused message new (before ++ s ∷ [])
+refused_more message old new before s refused was =
+    let stop = was.stop in
+    record {
+      is_refused = refused;
+      stop = record {
+        taken = stop.taken;
+        at = stop.at;
+        rest = stop.rest ++ s ∷ [];
+        sightings_are = ap (λ ss. ss ++ s ∷ []) stop.sightings_are ∙ append_assoc stop.taken (stop.at ∷ stop.rest) (s ∷ []);
+        stopped = stop.stopped;
+      };
+    }

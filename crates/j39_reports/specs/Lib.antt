@@ -23,6 +23,7 @@ pub mod Bounds
 pub mod RowModels
 pub mod MessageHeads
 -- summaries: the code's steps, below the rules
+pub mod Leads
 pub mod RowsSoFar
 pub mod SummarySoFar
 -- surveys: the code's steps, below the rules

@@ -1,11 +1,12 @@
 -- The steps of a summary, entry by entry.
-use Rattle.std.specs.Prelude.{◌≡◌, ◌+◌, ◌++◌, ◌∷◌, [], false, ℕ, Bool, List, Option, None, Some, if◌then◌else◌, map}
+use Rattle.std.specs.Prelude.{◌≡◌, ◌⊎◌, ◌+◌, ◌++◌, ◌∷◌, [], false, true, ℕ, Bool, List, Option, None, Some, if◌then◌else◌, map}
 use Rattle.std.specs.Int.{int_max, int_min}
 use Rattle.std.specs.List.{list_any}
 use Rattle.j39_memory.specs.ByOrigin.{pairs_of}
 use Rattle.j39_frame.specs.Origin.{is_same}
 use Rattle.j39_groups.specs.Sightings.{SightingRecord, absent, absent_in, told, told_in}
 use Rattle.j39_groups.specs.Value.{ValueRecord}
+use Rattle.j39_groups.specs.Visits.{StopsAt}
 use Rattle.j39_listen.specs.Counting.{capped}
 use Rattle.j39_listen.specs.Heard.{Hearing}
 use Rattle.j39_listen.specs.Report.{Entry, entry_of}
@@ -87,3 +88,12 @@ WantsAt message before (told reading) =
 WantsAt message before (absent spn) =
     list_any (is_same (absence_of message.hearing spn))
     (message.absent ++ map (absence_of message.hearing) (absent_in before)) ≡ false
+
+-- memory was refused at one of these that wanted it
+pub record WasRefused (message : Message) (rows : Rows) (sightings : List SightingRecord) : Type 0 where
+  pub is_refused : rows.is_refused ≡ true
+  pub stop : StopsAt (WantsAt message) [] sightings
+
+-- the rows have taken these, or memory was refused at one of them
+abbrev pub GoesOn : Message → Rows → List SightingRecord → Type 0
+GoesOn message rows sightings = (HasTaken message rows sightings × (rows.is_refused ≡ false)) ⊎ WasRefused message rows sightings

@@ -4,6 +4,7 @@ mod absences;
 mod account;
 mod guesses;
 pub mod laws;
+mod leads;
 mod lines;
 mod message_head;
 mod rows;

@@ -187,7 +187,12 @@ fn note<'t>(
             }
             rows.begin(&heard);
             match groups.visit(heard.message.pgn, heard.message.payload, rows, &mut ()) {
-                Ok(()) => Ok(1),
+                Ok(()) => {
+                    if rows.is_refused {
+                        return Err(AllocError);
+                    }
+                    Ok(1)
+                }
                 Err(AllocError) => Err(AllocError),
             }
         }

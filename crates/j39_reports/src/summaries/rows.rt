@@ -1,23 +1,17 @@
 //! The rows of a summary.
-ghost use Rattle.std.specs.Prelude.{◌≡◌, ◌++◌, ◌∷◌, [], List, OnOk, OnErr, IfOk, None};
-ghost use Rattle.j39_memory.specs.ByOrigin.{pairs_of};
-ghost use Rattle.j39_frame.specs.Origin.{place_in};
-ghost use Rattle.j39_frame.specs.Stamp.{stamp_micros};
+ghost use Rattle.std.specs.Prelude.{◌≡◌, Some};
+ghost use Rattle.std.specs.Map.{keys_of};
+ghost use Rattle.std.proofs.Props.{props};
 ghost use Rattle.j39_groups.specs.Models.{value_of};
-ghost use Rattle.j39_listen.specs.Report.{Entry};
-ghost use Rattle.j39_listen.specs.HeardModel.{hearing_of};
-ghost use Rattle.j39_frame.specs.declared.origin.Origin.{Origin};
-ghost use Rattle.j39_reports.specs.RowsSoFar.{AreCounted, AreRowsOf, HasTaken};
-ghost use Rattle.j39_reports.specs.MessageHeads.{origin_in};
-ghost use Rattle.j39_reports.specs.RowModels.{entry_at};
-ghost use Rattle.j39_reports.specs.SummaryRun.{WantsRow};
+ghost use Rattle.j39_memory.specs.ByOrigin.{pairs_of};
+ghost use Rattle.j39_reports.specs.Leads.{AreLed, LeadsHead, leads_of};
 
 use crate::summaries::absences::Absences;
 use crate::summaries::guesses::Guesses;
+use crate::summaries::leads::Leads;
 use crate::summaries::message_head::MessageHead;
 use crate::summaries::statistics::{AddedValue, Statistics};
-use j39_frame::{Origin, Stamp};
-use j39_groups::{ReadingVisitor, Value};
+use j39_groups::{ReadingVisitor, Slot, Value};
 use j39_listen::Heard;
 use j39_memory::ByOrigin;
 use std::alloc::{AllocError, Global};
@@ -31,9 +25,34 @@ pub(crate) struct Rows<'t> {
     pub absences: Absences,
     alloc: Global,
     head: MessageHead,
+    leads: Leads,
+    /// Where the row that leads those of the message's head stands, or [`NOWHERE`] while that isn't known.
+    lead: usize,
+    /// Where the row of the next value stands, if that is the row behind the last one's.
+    next: usize,
+    /// Whether memory was refused since the message began: then what is here is no summary any more. It is asked once a
+    /// message, and not with each value.
+    pub is_refused: bool,
+    ghost led: { AreLed (keys_of (pairs_of rows)) (leads_of (pairs_of rows)) } by { Prim.hlevel props },
+    ghost leads_head: { LeadsHead (keys_of (pairs_of rows)) lead head } by { Prim.hlevel props },
 }
 
+/// A place where no row stands.
+const NOWHERE: usize = usize::MAX;
+
 impl<'t> Rows<'t> {
+    ghost use Rattle.std.specs.Prelude.{◌++◌, ◌∷◌, [], List, IfSome, OnOk, OnErr, None, false};
+    ghost use Rattle.j39_frame.specs.Origin.{place_in};
+    ghost use Rattle.j39_frame.specs.Stamp.{stamp_micros};
+    ghost use Rattle.j39_listen.specs.Report.{Entry};
+    ghost use Rattle.j39_listen.specs.HeardModel.{hearing_of};
+    ghost use Rattle.j39_frame.specs.declared.origin.Origin.{Origin};
+    ghost use Rattle.j39_reports.specs.Leads.{AddsLead, KeepsLeads};
+    ghost use Rattle.j39_reports.specs.RowsSoFar.{AreCounted, AreRowsOf, HasTaken};
+    ghost use Rattle.j39_reports.specs.MessageHeads.{origin_in};
+    ghost use Rattle.j39_reports.specs.RowModels.{entry_at};
+    ghost use Rattle.j39_reports.specs.SummaryRun.{WantsRow};
+
     /// No rows.
     pub fn new(alloc: Global) -> Rows<'t>
         ensures rows { AreRowsOf (pairs_of result.rows) [] }
@@ -45,128 +64,213 @@ impl<'t> Rows<'t> {
             absences: Absences::new(alloc),
             alloc,
             head: MessageHead::new(),
+            leads: Leads::new(),
+            lead: NOWHERE,
+            next: NOWHERE,
+            is_refused: false,
         }
     }
 
     /// Takes what the readings of a message have in common.
     #[inline(always)]
     pub fn begin(&mut self, heard: &Heard<'_>)
-        ensures { (before : List Entry) (absent : List Origin) → AreRowsOf (pairs_of self.old.rows) before
+        ensures taken { (before : List Entry) (absent : List Origin) → AreRowsOf (pairs_of self.old.rows) before
             → AreCounted (pairs_of self.old.absences.counts) absent
             → HasTaken (record { before = before; absent = absent; hearing = hearing_of heard.now }) self.new [] }
+        ensures free { self.new.is_refused ≡ false }
     {
         self.head = MessageHead::of(heard);
+        self.lead = known_lead(&self.rows, self.leads.place_of(&self.head), &self.head);
+        self.next = self.lead;
+        self.is_refused = false;
     }
-}
 
-/// Takes a value to its row, which stands at this place where there is one.
-#[inline(always)]
-fn take<'t>(
-    rows: &mut ByOrigin<Statistics<'t>>,
-    alloc: Global,
-    place: Option<usize>,
-    origin: Origin,
-    stamp: Stamp,
-    value: Value<'t, '_>,
-) -> Result<(), AllocError>
-    requires { place ≡ place_in (pairs_of rows.old) origin }
-    ensures taken { OnOk result ((before : List Entry) → AreRowsOf (pairs_of rows.old) before
-        → AreRowsOf (pairs_of rows.new)
-        (before ++ entry_at origin (stamp_micros stamp) (value_of value.entry) ∷ [])) }
-    ensures wanted { OnErr result ((before : List Entry) → AreRowsOf (pairs_of rows.old) before
-        → WantsRow before (entry_at origin (stamp_micros stamp) (value_of value.entry))) }
-{
-    match place {
-        Some(at) => rows.change(
-            at,
+    /// Where the row of the message's next value stands, where that is the next one: whether it is of the message's head
+    /// is told by its lead.
+    #[inline(always)]
+    fn next_place(&self, spn: u32) -> Option<usize>
+        ensures { IfSome result (λ place. place_in (pairs_of self.now.rows) (origin_in self.now.head spn) ≡ Some place) }
+    {
+        let place = self.next;
+        if place >= self.rows.len() {
+            return None;
+        }
+        let (origin, statistics) = self.rows.pair_at(place);
+        if origin.spn == spn && statistics.lead == self.lead {
+            Some(place)
+        } else {
+            None
+        }
+    }
+
+    /// Takes a value to its row.
+    #[inline(always)]
+    fn take_value(&mut self, spn: u32, value: Value<'t, '_>) -> Result<(), AllocError>
+        ensures head { self.new.head ≡ self.old.head }
+        ensures absences { self.new.absences ≡ self.old.absences }
+        ensures refused { self.new.is_refused ≡ self.old.is_refused }
+        ensures taken { OnOk result ((before : List Entry) → AreRowsOf (pairs_of self.old.rows) before
+            → AreRowsOf (pairs_of self.new.rows)
+            (before ++ entry_at (origin_in self.old.head spn) (stamp_micros self.old.head.stamp) (value_of value.entry) ∷ [])) }
+        ensures wanted { OnErr result ((before : List Entry) → AreRowsOf (pairs_of self.old.rows) before
+            → WantsRow before (entry_at (origin_in self.old.head spn) (stamp_micros self.old.head.stamp) (value_of value.entry))) }
+    {
+        match self.next_place(spn) {
+            Some(place) => {
+                self.next = place + 1;
+                Self::take(&mut self.rows, self.alloc, place, &self.head, spn, value)
+            }
+            None => self.take_elsewhere(spn, value),
+        }
+    }
+
+    /// Takes a value to its row wherever that stands, off the quick path.
+    #[inline(never)]
+    fn take_elsewhere(&mut self, spn: u32, value: Value<'t, '_>) -> Result<(), AllocError>
+        ensures head { self.new.head ≡ self.old.head }
+        ensures absences { self.new.absences ≡ self.old.absences }
+        ensures refused { self.new.is_refused ≡ self.old.is_refused }
+        ensures taken { OnOk result ((before : List Entry) → AreRowsOf (pairs_of self.old.rows) before
+            → AreRowsOf (pairs_of self.new.rows)
+            (before ++ entry_at (origin_in self.old.head spn) (stamp_micros self.old.head.stamp) (value_of value.entry) ∷ [])) }
+        ensures wanted { OnErr result ((before : List Entry) → AreRowsOf (pairs_of self.old.rows) before
+            → WantsRow before (entry_at (origin_in self.old.head spn) (stamp_micros self.old.head.stamp) (value_of value.entry))) }
+    {
+        let origin = self.head.origin(spn);
+        match self.guesses.place_of(&self.rows, origin) {
+            Some(place) => {
+                let (_, statistics) = self.rows.pair_at(place);
+                self.lead = statistics.lead;
+                self.leads.set(&self.head, self.lead);
+                self.next = place + 1;
+                Self::take(&mut self.rows, self.alloc, place, &self.head, spn, value)
+            }
+            None => {
+                let place = self.rows.len();
+                let lead = self.lead.min(place);
+                Self::add(&mut self.rows, self.alloc, lead, &self.head, spn, value)?;
+                self.lead = lead;
+                self.leads.set(&self.head, lead);
+                self.next = place + 1;
+                Ok(())
+            }
+        }
+    }
+
+    /// Takes a value to its row, which stands at this place.
+    #[inline(always)]
+    fn take(
+        rows: &mut ByOrigin<Statistics<'t>>,
+        alloc: Global,
+        place: usize,
+        head: &MessageHead,
+        spn: u32,
+        value: Value<'t, '_>,
+    ) -> Result<(), AllocError>
+        requires { place_in (pairs_of rows.old) (origin_in head.now spn) ≡ Some place }
+        ensures taken { OnOk result ((before : List Entry) → AreRowsOf (pairs_of rows.old) before
+            → AreRowsOf (pairs_of rows.new)
+            (before ++ entry_at (origin_in head.now spn) (stamp_micros head.now.stamp) (value_of value.entry) ∷ [])) }
+        ensures wanted { OnErr result ((before : List Entry) → AreRowsOf (pairs_of rows.old) before
+            → WantsRow before (entry_at (origin_in head.now spn) (stamp_micros head.now.stamp) (value_of value.entry))) }
+        ensures led { KeepsLeads (pairs_of rows.old) (pairs_of rows.new) }
+    {
+        let stamp = head.stamp;
+        rows.change(
+            place,
             AddedValue {
                 alloc,
                 stamp,
                 value,
             },
-        ),
-        None => add(rows, alloc, origin, stamp, value),
+        )
+    }
+
+    /// Begins a row, with where the row that leads it stands.
+    #[inline(never)]
+    fn add(
+        rows: &mut ByOrigin<Statistics<'t>>,
+        alloc: Global,
+        lead: usize,
+        head: &MessageHead,
+        spn: u32,
+        value: Value<'t, '_>,
+    ) -> Result<(), AllocError>
+        requires { place_in (pairs_of rows.old) (origin_in head.now spn) ≡ None }
+        ensures begun { OnOk result ((before : List Entry) → AreRowsOf (pairs_of rows.old) before
+            → AreRowsOf (pairs_of rows.new)
+            (before ++ entry_at (origin_in head.now spn) (stamp_micros head.now.stamp) (value_of value.entry) ∷ [])) }
+        ensures led { OnOk result (AddsLead lead (origin_in head.now spn) (pairs_of rows.old) (pairs_of rows.new)) }
+        ensures refused { OnErr result (pairs_of rows.new ≡ pairs_of rows.old) }
+    {
+        let statistics = Statistics::begin(alloc, lead, head.stamp, value)?;
+        rows.add(head.origin(spn), statistics)
     }
 }
 
-/// Begins a row.
-#[inline(never)]
-fn add<'t>(
-    rows: &mut ByOrigin<Statistics<'t>>,
-    alloc: Global,
-    origin: Origin,
-    stamp: Stamp,
-    value: Value<'t, '_>,
-) -> Result<(), AllocError>
-    requires { place_in (pairs_of rows.old) origin ≡ None }
-    ensures { OnOk result ((before : List Entry) → AreRowsOf (pairs_of rows.old) before
-        → AreRowsOf (pairs_of rows.new)
-        (before ++ entry_at origin (stamp_micros stamp) (value_of value.entry) ∷ [])) }
+/// Where the row that leads those of a message of this head stands: there, where one stands there.
+#[inline(always)]
+fn known_lead(rows: &ByOrigin<Statistics<'_>>, place: usize, head: &MessageHead) -> usize
+    ensures { LeadsHead (keys_of (pairs_of rows.now)) result head.now }
 {
-    let statistics = Statistics::begin(alloc, stamp, value)?;
-    rows.add(origin, statistics)
+    if place < rows.len() {
+        let (origin, _) = rows.pair_at(place);
+        if origin == head.origin(origin.spn) {
+            return place;
+        }
+    }
+    NOWHERE
 }
 
-/// Takes a value to its row wherever that stands, off the quick path.
-#[inline(never)]
-fn take_elsewhere<'t>(
-    rows: &mut ByOrigin<Statistics<'t>>,
-    guesses: &mut Guesses,
-    alloc: Global,
-    head: &MessageHead,
-    spn: u32,
-    value: Value<'t, '_>,
-) -> Result<(), AllocError>
-    ensures taken { OnOk result ((before : List Entry) → AreRowsOf (pairs_of rows.old) before
-        → AreRowsOf (pairs_of rows.new)
-        (before ++ entry_at (origin_in head.now spn) (stamp_micros head.now.stamp) (value_of value.entry) ∷ [])) }
-    ensures wanted { OnErr result ((before : List Entry) → AreRowsOf (pairs_of rows.old) before
-        → WantsRow before (entry_at (origin_in head.now spn) (stamp_micros head.now.stamp) (value_of value.entry))) }
+/// The same value, its scale field by field: so what lies between a scale's fields is not copied with each value.
+#[inline(always)]
+fn fields_of<'t, 'v>(value: Value<'t, 'v>) -> Value<'t, 'v>
+    ensures { value_of result ≡ value_of value.entry }
 {
-    let origin = head.origin(spn);
-    let place = guesses.place_of(rows, origin);
-    take(rows, alloc, place, origin, head.stamp, value)
+    match value {
+        Value::Number(number, scale) => Value::Number(
+            number,
+            Slot::of_own_table(scale.step(), scale.offset(), scale.places(), scale.unit()),
+        ),
+        Value::On => Value::On,
+        Value::Off => Value::Off,
+        Value::Error => Value::Error,
+        Value::Reserved => Value::Reserved,
+        Value::Indicator => Value::Indicator,
+        Value::Text(text) => Value::Text(text),
+    }
 }
 
 impl<'t> ReadingVisitor<'t, ()> for Rows<'t> {
-    ghost use Rattle.j39_reports.specs.RowsSoFar.{HasTaken, Message, WantsAt};
+    ghost use Rattle.j39_reports.specs.RowsSoFar.{GoesOn, Message, WantsAt};
 
     type Fault = AllocError;
 
     ghost Subject = { Message };
 
-    ghost has_taken = { λ message rows medium. HasTaken message rows };
+    ghost has_taken = { λ message rows medium. GoesOn message rows };
 
     ghost has_stopped = { λ message before at rows medium. WantsAt message before at };
 
     #[inline(always)]
     fn visit(&mut self, spn: u32, value: Value<'t, '_>, _: &mut ()) -> Result<(), AllocError> {
-        let origin = self.head.origin(spn);
-        match self.guesses.known_place(&self.rows, origin) {
-            Some(place) => {
-                let stamp = self.head.stamp;
-                take(
-                    &mut self.rows,
-                    self.alloc,
-                    Some(place),
-                    origin,
-                    stamp,
-                    value,
-                )
+        match self.take_value(spn, fields_of(value)) {
+            Ok(()) => Ok(()),
+            Err(AllocError) => {
+                self.is_refused = true;
+                Ok(())
             }
-            None => take_elsewhere(
-                &mut self.rows,
-                &mut self.guesses,
-                self.alloc,
-                &self.head,
-                spn,
-                value,
-            ),
         }
     }
 
     fn visit_absent(&mut self, spn: u32, _: &mut ()) -> Result<(), AllocError> {
         let origin = self.head.origin(spn);
-        self.absences.count(origin)
+        match self.absences.count(origin) {
+            Ok(()) => Ok(()),
+            Err(AllocError) => {
+                self.is_refused = true;
+                Ok(())
+            }
+        }
     }
 }

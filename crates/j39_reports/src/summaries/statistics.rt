@@ -3,7 +3,7 @@ ghost use Rattle.std.specs.Prelude.{◌≡◌, ◌+◌, None, OnErr, OnOk, IfOk,
 ghost use Rattle.std.specs.Option.{option_map};
 ghost use Rattle.j39_frame.specs.Stamp.{stamp_micros};
 ghost use Rattle.j39_groups.specs.Models.{scale_record, value_of};
-ghost use Rattle.j39_groups.specs.Value.{number};
+ghost use Rattle.j39_groups.specs.Value.{number, text as text_value};
 ghost use Rattle.j39_listen.specs.Counting.{capped};
 ghost use Rattle.j39_reports.specs.RowsSoFar.{begun, grown, one_if, widened};
 ghost use Rattle.j39_reports.specs.RowModels.{entry_at, range_of_span, row_shown};
@@ -11,7 +11,7 @@ ghost use Rattle.j39_reports.specs.SummaryRun.{IsText};
 ghost use Rattle.j39_reports.specs.Summary.{are_comparable, is_word_value, number_in};
 ghost use Rattle.j39_frame.specs.declared.origin.Origin.{Origin};
 
-use crate::summaries::stored_value::StoredValue;
+use crate::summaries::stored_value::{StoredValue, copy_of};
 use j39_frame::Stamp;
 use j39_groups::{Slot, Value};
 use j39_memory::OriginChange;
@@ -40,17 +40,21 @@ pub(crate) struct Statistics<'t> {
     pub first: Sample<'t>,
     pub last: Sample<'t>,
     pub range: Option<NumberRange<'t>>,
+    /// Where the row stands that leads those of its sender, destination, NAME and group.
+    pub lead: usize,
 }
 
 impl<'t> Statistics<'t> {
     /// Those of one value. Only a text takes memory.
     pub fn begin(
         alloc: Global,
+        lead: usize,
         stamp: Stamp,
         value: Value<'t, '_>,
     ) -> Result<Statistics<'t>, AllocError>
         ensures begun { IfOk result (λ statistics. (origin : Origin)
             → row_shown (origin, statistics) ≡ begun (entry_at origin (stamp_micros stamp) (value_of value.entry))) }
+        ensures lead { IfOk result (λ statistics. statistics.lead ≡ lead) }
         ensures wanted { OnErr result (IsText (value_of value.entry)) }
     {
         let first = StoredValue::of(alloc, value)?;
@@ -64,6 +68,7 @@ impl<'t> Statistics<'t> {
             },
             last: Sample { stamp, value: last },
             range: span_of(value),
+            lead,
         })
     }
 
@@ -78,23 +83,39 @@ impl<'t> Statistics<'t> {
         ensures grown { OnOk result ((origin : Origin) → row_shown (origin, self.new)
             ≡ grown (row_shown (origin, self.old)) (entry_at origin (stamp_micros stamp) (value_of value.entry))) }
         ensures wanted { OnErr result (IsText (value_of value.entry)) }
+        ensures lead { self.new.lead ≡ self.old.lead }
     {
-        // The number comes first and has its way for itself, as most values are one.
-        if let Value::Number(number, scale) = value {
-            self.grow_by_number(stamp, number, scale);
-            return Ok(());
+        match value {
+            Value::Number(number, scale) => self.grow_by_number(stamp, number, scale),
+            Value::On => self.put(stamp, StoredValue::On, false),
+            Value::Off => self.put(stamp, StoredValue::Off, false),
+            Value::Error => self.put(stamp, StoredValue::Error, true),
+            Value::Reserved => self.put(stamp, StoredValue::Reserved, true),
+            Value::Indicator => self.put(stamp, StoredValue::Indicator, true),
+            Value::Text(text) => return self.grow_by_text(alloc, stamp, text),
         }
-        let last = StoredValue::of(alloc, value)?;
-        self.put(stamp, last, is_word(value));
+        Ok(())
+    }
+
+    /// One text more, off the quick path.
+    #[inline(never)]
+    fn grow_by_text(&mut self, alloc: Global, stamp: Stamp, text: &[u8]) -> Result<(), AllocError>
+        ensures grown { OnOk result ((origin : Origin) → row_shown (origin, self.new)
+            ≡ grown (row_shown (origin, self.old)) (entry_at origin (stamp_micros stamp) (text_value text.now))) }
+        ensures lead { self.new.lead ≡ self.old.lead }
+    {
+        let copy = copy_of(alloc, text)?;
+        self.put(stamp, StoredValue::Text(copy), false);
         Ok(())
     }
 
     /// One number more.
     #[inline(always)]
     fn grow_by_number(&mut self, stamp: Stamp, value: i64, scale: Slot<'t>)
-        ensures { (origin : Origin) → row_shown (origin, self.new)
+        ensures grown { (origin : Origin) → row_shown (origin, self.new)
             ≡ grown (row_shown (origin, self.old))
             (entry_at origin (stamp_micros stamp) (number value (scale_record scale.entry))) }
+        ensures lead { self.new.lead ≡ self.old.lead }
     {
         widen(&mut self.range, value, scale);
         self.put(stamp, StoredValue::Number(value, scale), false);
@@ -108,10 +129,12 @@ impl<'t> Statistics<'t> {
         ensures first { self.new.first ≡ self.old.first }
         ensures last { self.new.last ≡ record { stamp = stamp; value = value.entry } }
         ensures range { self.new.range ≡ self.old.range }
+        ensures lead { self.new.lead ≡ self.old.lead }
     {
         self.count = self.count.saturating_add(1);
         self.words = self.words.saturating_add(u64::from(is_word));
-        self.last = Sample { stamp, value };
+        self.last.stamp = stamp;
+        self.last.value.set(value);
     }
 }
 
@@ -124,13 +147,13 @@ pub(crate) struct AddedValue<'t, 'v> {
 }
 
 impl<'t, 'v> OriginChange<Statistics<'t>> for AddedValue<'t, 'v> {
-    ghost use Rattle.std.specs.Prelude.{OnErr, OnOk};
+    ghost use Rattle.std.specs.Prelude.{◌≡◌, OnErr, OnOk};
     ghost use Rattle.j39_groups.specs.Models.{value_of};
     ghost use Rattle.j39_reports.specs.RowsSoFar.{HasGrown};
     ghost use Rattle.j39_reports.specs.SummaryRun.{IsText};
 
     ghost changes = { λ more old result new. OnOk result (HasGrown old (stamp_micros more.stamp)
-        (value_of more.value) new) × OnErr result (IsText (value_of more.value)) };
+        (value_of more.value) new) × (OnErr result (IsText (value_of more.value)) × (new.lead ≡ old.lead)) };
 
     #[inline(always)]
     fn make(self, statistics: &mut Statistics<'t>) -> Result<(), AllocError> {
@@ -210,7 +233,18 @@ impl<'t> NumberRange<'t> {
             (Some (record { value = number; slot = scale_record scale.entry })) }
     {
         // Most numbers lie within, whatever they are compared with.
-        if (number < self.least || self.most < number) && are_comparable(self.scale, scale) {
+        if number < self.least || self.most < number {
+            self.move_bounds(number, scale);
+        }
+    }
+
+    /// A bound moves to a number, where that can be compared with the first.
+    #[inline(never)]
+    fn move_bounds(&mut self, number: i64, scale: Slot<'t>)
+        ensures { Some (range_of_span self.new) ≡ widened (Some (range_of_span self.old))
+            (Some (record { value = number; slot = scale_record scale.entry })) }
+    {
+        if are_comparable(self.scale, scale) {
             self.least = self.least.min(number);
             self.most = self.most.max(number);
         }

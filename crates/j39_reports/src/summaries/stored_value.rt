@@ -47,6 +47,26 @@ impl<'t> StoredValue<'t> {
         }
     }
 
+    /// It is this value now. Most were no text before, so there is no memory to give back.
+    #[inline(always)]
+    pub(crate) fn set(&mut self, value: StoredValue<'t>)
+        ensures { self.new ≡ value.entry }
+    {
+        if let StoredValue::Text(_) = self {
+            self.replace(value);
+            return;
+        }
+        *self = value;
+    }
+
+    /// It is this value now, off the quick path.
+    #[inline(never)]
+    fn replace(&mut self, value: StoredValue<'t>)
+        ensures { self.new ≡ value.entry }
+    {
+        *self = value;
+    }
+
     /// The value itself.
     pub fn value(&self) -> Value<'t, '_>
         ensures { value_of result ≡ kept_value self.now }
@@ -65,7 +85,10 @@ impl<'t> StoredValue<'t> {
 
 /// A copy of a text. An error comes where memory is refused, and for a text that is longer than any message.
 #[inline(never)]
-fn copy_of(alloc: Global, text: &[u8]) -> Result<Stored<ArrayVec<u8, LONGEST>>, AllocError>
+pub(crate) fn copy_of(
+    alloc: Global,
+    text: &[u8],
+) -> Result<Stored<ArrayVec<u8, LONGEST>>, AllocError>
     ensures { IfOk result (λ copy. (stored_value copy).items ≡ text.now) }
 {
     if text.len() > LONGEST {

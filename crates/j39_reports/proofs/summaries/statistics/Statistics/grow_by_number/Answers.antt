@@ -4,8 +4,8 @@ use Rattle.j39_reports.specs.RowsSoFar.{widened}
 use Rattle.j39_reports.specs.RowModels.{entry_at, entry_seen, range_of_span}
 use Rattle.j39_reports.proofs.summaries.statistics.Statistics.grow_by_number.Goals as goal
 
-pub returns : goal.returns
-returns c =
+pub returns-clause-grown : goal.returns-clause-grown
+returns-clause-grown c =
     let back : to_z w64 (of_z w64 c.args.value) ≡ c.args.value = to_z-of_z w64 c.args.value c.ranges.value in
     let slot = scale_record c.args.scale in
     λ origin i. record {
