@@ -1,12 +1,12 @@
 -- Rows that lead others.
-use Rattle.j39_reports.proofs.Common.{◌≡◌, ◌<◌, ◌≤◌, ◌+◌, ◌∷◌, ◌++◌, [], ℕ, zero, suc, true, List, Some, arith, get_or, length, length-append, length-map, map-append, refl, sym, ap, ◌∙◌, subst, inl, inr, unwrap_or, slice_get, slice_set, keys_of, option_map, is_same, place_in, Origin, same_self, same_true, get_or_from_slice_get}
+use Rattle.j39_reports.proofs.Common.{◌≡◌, ◌<◌, ◌≤◌, ◌+◌, ◌∷◌, ◌++◌, [], ℕ, zero, suc, true, List, Some, arith, get_or, length, length-append, length-map, map-append, None, refl, sym, ap, ◌∙◌, subst, inl, inr, unwrap_or, slice_get, slice_set, keys_of, option_map, is_same, place_in, Origin, same_self, same_true, get_or_from_slice_get}
 use Rattle.std.proofs.lemmas.Bool.{cases_lt}
 use Rattle.std.proofs.lemmas.Option.{slice_get-map, slice_get_within}
 use Rattle.std.proofs.Math.ListN.{get_or-append}
 use Rattle.std.proofs.Math.Seq.{get_or-append_seam}
 use Rattle.std.specs.List.{IsDistinct}
 use Rattle.std.specs.Prelude.{min}
-use Rattle.j39_frame.proofs.PlaceLemmas.{guessed, keys_set}
+use Rattle.j39_frame.proofs.PlaceLemmas.{absent, distinct_more, guessed, keys_set}
 use Rattle.j39_reports.specs.Leads.{AddsLead, AreLed, IsLedBy, KeepsLeads, LeadsHead, are_alike, leads_of, with_parameter}
 use Rattle.j39_reports.specs.MessageHeads.{origin_in}
 use Rattle.j39_reports.specs.declared.summaries.message_head.MessageHead.{MessageHead}
@@ -75,6 +75,9 @@ keeps rows rows' i o v w here same is =
 pub still_led : (rows rows' : List (Origin × Statistics)) → KeepsLeads rows rows' → AreLed (keys_of rows) (leads_of rows) → AreLed (keys_of rows') (leads_of rows')
 still_led rows rows' keep led =
     subst (λ (os : List Origin). AreLed os (leads_of rows')) (sym keep.0) (subst (AreLed (keys_of rows)) (sym keep.1) led)
+
+pub still_apart : (rows rows' : List (Origin × Statistics)) → KeepsLeads rows rows' → IsDistinct is_same (keys_of rows) → IsDistinct is_same (keys_of rows')
+still_apart rows rows' keep apart = subst (IsDistinct is_same) (sym keep.0) apart
 
 pub still_leads : (rows rows' : List (Origin × Statistics)) (lead : ℕ) (head : MessageHead) → KeepsLeads rows rows' → LeadsHead (keys_of rows) lead head
     → LeadsHead (keys_of rows') lead head
@@ -148,6 +151,9 @@ module _ (rows rows' : List (Origin × Statistics)) (lead place : ℕ) (head : M
       subst (λ (os : List Origin). AreLed os (leads_of rows')) (sym add.0)
       (subst (AreLed (keys_of rows ++ k ∷ [])) (sym add.1) (led_more (keys_of rows) (leads_of rows) k same_long lead led by))
 
+  pub apart_now : place_in rows k ≡ None → IsDistinct is_same (keys_of rows) → IsDistinct is_same (keys_of rows')
+  apart_now nowhere apart = subst (IsDistinct is_same) (sym add.0) (distinct_more (keys_of rows) k apart (absent rows k nowhere))
+
   pub leads_now : LeadsHead (keys_of rows') lead head
   leads_now = subst (λ (os : List Origin). LeadsHead os lead head) (sym add.0) (λ inside d. by.1 d)
 
@@ -159,7 +165,7 @@ pub known : (rows : List (Origin × Statistics)) (p : ℕ) (row : Origin × Stat
 known rows p row head here same = λ inside d. ap (λ (o : Origin). are_alike o (origin_in head 0)) (origin_at rows p row here d) ∙ same
 
 -- where no row stands none leads
-pub nowhere : (rows : List (Origin × Statistics)) (head : MessageHead) → length rows ≤ 65536 → LeadsHead (keys_of rows) 18446744073709551615 head
+pub nowhere : (rows : List (Origin × Statistics)) (head : MessageHead) → length rows < 18446744073709551616 → LeadsHead (keys_of rows) 18446744073709551615 head
 nowhere rows head few = λ inside d. absurd (omega (arith, inside, few, length-map rows (λ (r : Origin × Statistics). r.0)))
 
 -- the row with the lead of a message's head and a parameter is that of the parameter of the message

@@ -1,7 +1,9 @@
 //! The rows of a summary.
 ghost use Rattle.std.specs.Prelude.{◌≡◌, Some};
+ghost use Rattle.std.specs.List.{IsDistinct};
 ghost use Rattle.std.specs.Map.{keys_of};
 ghost use Rattle.std.proofs.Props.{props};
+ghost use Rattle.j39_frame.specs.Origin.{is_same};
 ghost use Rattle.j39_groups.specs.Models.{value_of};
 ghost use Rattle.j39_memory.specs.ByOrigin.{pairs_of};
 ghost use Rattle.j39_reports.specs.Leads.{AreLed, LeadsHead, leads_of};
@@ -33,6 +35,7 @@ pub(crate) struct Rows<'t> {
     /// Whether memory was refused since the message began: then what is here is no summary any more. It is asked once a
     /// message, and not with each value.
     pub is_refused: bool,
+    ghost apart: { IsDistinct is_same (keys_of (pairs_of rows)) } by { Prim.hlevel props },
     ghost led: { AreLed (keys_of (pairs_of rows)) (leads_of (pairs_of rows)) } by { Prim.hlevel props },
     ghost leads_head: { LeadsHead (keys_of (pairs_of rows)) lead head } by { Prim.hlevel props },
 }

@@ -6,4 +6,4 @@ use Rattle.j39_reports.proofs.summaries.rows.Rows.next_place.Goals as goal
 pub returns-then-statistics-self : goal.returns-then-statistics-self
 returns-then-statistics-self c =
     let rows = c.args.self.now in
-    next_is (pairs_of rows.rows) rows.next _ rows.lead rows.head c.args.spn rows.led rows.leads_head rows.rows.apart c.pair_at.ensures c.if-statistics-self.true c.if-origin-spn.true
+    next_is (pairs_of rows.rows) rows.next _ rows.lead rows.head c.args.spn rows.led rows.leads_head rows.apart c.pair_at.ensures c.if-statistics-self.true c.if-origin-spn.true
