@@ -84,6 +84,7 @@ impl<T> Told<T> {
 }
 
 /// Tells a device's error as a fault, and marks it; nothing else is a fault.
+#[inline(always)]
 fn tell<A>(answer: io::Result<A>, has_failed: &mut bool) -> Result<A, DeviceFault>
     ensures good { IfOk answer (λ a. (result ≡ Ok a) × (has_failed.new ≡ has_failed.old)) }
     ensures fault { OnErr answer (IsErr result × (has_failed.new ≡ true)) }
@@ -118,6 +119,7 @@ impl<T: Write> Sink for Told<T> {
 
     ghost is_flushed = { λ told. is_passed_on told };
 
+    #[inline(always)]
     fn put(&mut self, bytes: &[u8]) -> Result<usize, DeviceFault> {
         self.is_flushed = false;
         let n = tell(self.device.write(bytes), &mut self.has_failed)?;
@@ -136,7 +138,26 @@ impl<T: Write> Sink for Told<T> {
 }
 
 /// Writes all of the bytes, by as many writes as it takes, and flushes none. After a fault a front of them was written.
+#[inline(always)]
 pub fn put_all<S: Sink>(sink: &mut S, bytes: &[u8]) -> Result<(), DeviceFault>
+    ensures puts { Puts bytes.now result (turn S.written S.has_failed sink.old sink.new) }
+    ensures waits { KeepsBack bytes.now result (S.is_flushed sink.old) (S.is_flushed sink.new) }
+{
+    if bytes.is_empty() {
+        return Ok(());
+    }
+    let n = sink.put(bytes)?;
+    let (_, rest) = bytes.split_at(n);
+    if rest.is_empty() {
+        return Ok(());
+    }
+    put_rest(sink, rest)
+}
+
+/// The same, of what one write didn't take: apart, as most writes take all.
+#[cold]
+#[inline(never)]
+fn put_rest<S: Sink>(sink: &mut S, bytes: &[u8]) -> Result<(), DeviceFault>
     ensures puts { Puts bytes.now result (turn S.written S.has_failed sink.old sink.new) }
     ensures waits { KeepsBack bytes.now result (S.is_flushed sink.old) (S.is_flushed sink.new) }
 {

@@ -1,21 +1,12 @@
--- What one write took follows what the others did.
-use Rattle.std.proofs.Common.{◌++◌, arith, take, sym, ap, ◌∙◌, append_assoc, take-append-drop}
-use Rattle.std.proofs.lemmas.Grind.{common_steps}
-use Rattle.std.proofs.KnownBytes.{Appends-trans}
+-- What the first write didn't take is put behind what it took.
+use Rattle.std.proofs.Common.{◌++◌, take, ap, ◌∙◌, take-append-drop}
+use Rattle.j39_io.specs.declared.device.DeviceFault.{DeviceFault}
+use Rattle.j39_io.proofs.PutsLemmas.{puts_as, puts_then}
 use Rattle.j39_io.proofs.device.put_all.Goals as goal
 
-pub loop-rest-preserved : goal.loop-rest-preserved
-loop-rest-preserved g c =
-    let inv = c.loop-rest.invariant in
+pub returns-clause-puts : goal.returns-clause-puts
+returns-clause-puts g c =
+    let all = c.args.bytes.now in
     let n = c.in_ok-n.n in
-    let rest = c.loop-rest.rest.now in
-    let cut = ap (λ xs. inv.0 ++ xs) (sym (take-append-drop n rest)) ∙ sym (append_assoc inv.0 (take n rest) _) in
-    let left = ap (λ xs. (inv.0 ++ take n rest) ++ xs) (sym c.split_at.ensures.back) in (
-      inv.0 ++ take n rest,
-      inv.1 ∙ (cut ∙ left),
-      Appends-trans _ _ _ inv.0 (take n rest) inv.2 c.in_ok-n.ensures.bytes,
-      c.in_ok-n.ensures.mark ∙ inv.3,
-      λ _. c.in_ok-n.ensures.waits,
-      λ passed. let waits = c.in_ok-n.ensures.waits in grind arith,
-      λ none. let some = c.loop-rest-test.true in let is = c.is_empty.ensures in let whole = inv.1 in grind (arith, common_steps),
-    )
+    puts_as _ all _ _ (ap (λ xs. take n all ++ xs) c.split_at.ensures.back ∙ take-append-drop n all)
+    (puts_then {E = DeviceFault} (take n all) _ n _ _ _ _ (record { written = c.in_ok-n.ensures.bytes; front = tt; mark = c.in_ok-n.ensures.mark }) c.put_rest.ensures.puts)

@@ -1,6 +1,6 @@
 use Rattle.std.proofs.Common.{◌≡◌, ◌<◌, ◌++◌, ℕ, false, true, List, length}
 use Rattle.std.specs.Io.KnownBytes.{Appends}
-use Rattle.j39_io.proofs.device.put_all.Given as goal
+use Rattle.j39_io.proofs.device.put_rest.Given as goal
 
 -- the bytes before the rest were taken and none of them passed on, no fault came, and before the first of them nothing was done
 abbrev pub invariant-loop-rest : goal.invariant-loop-rest
