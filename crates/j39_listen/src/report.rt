@@ -84,10 +84,6 @@ impl<'g, 't, E: EntryForm> Account for Report<'g, 't, E> {
     fn feed<W: Sink>(&mut self, _: &Bus, frame: &Frame, sink: &mut W) -> Result<(), LineFault> {
         let role = self.roles.of(frame.id);
         self.chooser.note(frame);
-        if !role.is_heard {
-            self.made = self.made.and(NOTHING);
-            return Ok(());
-        }
         match put_frame(
             &mut self.listener,
             role.is_single,
@@ -122,7 +118,7 @@ const NOTHING: Made = Made {
 
 /// Writes what the filter takes of what is heard at a frame of the run's bus. A message counts whether it is taken or not, and of
 /// the lines those that are written. The caller says whether messages of its group are heard in one frame.
-#[inline(never)]
+#[inline(always)]
 fn put_frame<E: EntryForm, W: Sink>(
     listener: &mut Listener,
     is_single: bool,

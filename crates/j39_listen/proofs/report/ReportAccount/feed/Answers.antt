@@ -1,40 +1,19 @@
--- A frame of a group that is heard, or of another.
-use Rattle.std.proofs.Common.{List, ◌≡◌, ◌||◌, ◌∙◌, ap, false, sym}
-use Rattle.std.specs.Prelude.{Err, None}
-use Rattle.std.proofs.lemmas.Bool.{not-true, or_parts}
+-- What is heard at a frame is what the report lacks of it.
+use Rattle.std.proofs.Common.{List, ◌∙◌, ap, sym}
+use Rattle.std.specs.Prelude.{Err}
 use Rattle.j39_frame.specs.Frame.{FrameRecord}
 use Rattle.j39_frame.specs.Identifier.{pgn_of}
-use Rattle.j39_groups.specs.Readings.{is_network_group, is_reported_in}
+use Rattle.j39_groups.specs.Readings.{is_reported_in}
 use Rattle.j39_groups.specs.Row.{RowRecord}
-use Rattle.j39_listen.specs.ReportSoFar.{made_by}
 use Rattle.j39_listen.specs.declared.report.Report.{Report}
-use Rattle.j39_listen.proofs.ListenerLemmas.{hears_single, outside_claims, silent_outside}
 use Rattle.j39_listen.proofs.PieceLemmas.{same_fault}
-use Rattle.j39_listen.proofs.ReportAccount.{meets_by, meets_silent, report_meets, report_stops, stops_by}
-use Rattle.j39_listen.proofs.Reported.{reported_free, reported_leaves}
+use Rattle.j39_listen.proofs.ReportAccount.{meets_by, report_meets, report_stops, stops_by}
+use Rattle.j39_listen.proofs.Reported.{reported_free}
 use Rattle.j39_listen.proofs.report.ReportAccount.feed.Goals as goal
 
 pub put_frame-requires : goal.put_frame-requires
 put_frame-requires g c = λ single. reported_free c.args.self.now.roles.groups.now _ (sym (c.of-role.ensures.role.single
     ∙ ap (λ (x : FrameRecord). is_reported_in c.args.self.now.roles.groups.now (pgn_of x.id)) c.frame.view_is) ∙ single)
-
-pub returns-then-not-role-clause-met : goal.returns-then-not-role-clause-met
-returns-then-not-role-clause-met g c =
-    let self = c.args.self.now in
-    let groups = self.roles.groups.now in
-    let frame = c.args.frame.now in
-    let report : Report g.row.E.Denot =
-    record { roles = c.of-role.new.self; chooser = c.note.new.self; listener = self.listener; made = c.and-self.result; form = self.form } in
-    let neither = or_parts _ _ (
-    sym (c.of-role.ensures.role.heard ∙ ap (λ (x : FrameRecord). is_reported_in groups (pgn_of x.id) || is_network_group (pgn_of x.id)) c.frame.view_is)
-    ∙ not-true _ c.if-not-role.true
-    ) in
-    let other : is_reported_in groups (pgn_of frame.id) ≡ false = neither.0 in
-    let free : is_network_group (pgn_of frame.id) ≡ false = neither.1 in
-    λ subject. report_meets g.E.EntryForm.text_by subject g.E.EntryForm.table_of self report c.of-role.ensures.table (λ i. g.E.EntryForm.table_of self.form) frame c.note.ensures (made_by None) _ _ (λ which F same h chosen.
-    meets_silent g.E.EntryForm.text_by (record { rows = groups; which = which }) self.listener F frame _
-    (silent_outside (is_reported_in groups) (reported_leaves groups) self.listener F frame free other h)
-    (hears_single self.listener F frame free (outside_claims frame free) h)) c.and-self.ensures
 
 pub returns-in-Ok-clause-met : goal.returns-in-Ok-clause-met
 returns-in-Ok-clause-met g c =
