@@ -138,7 +138,6 @@ impl<T: Write> Sink for Told<T> {
 }
 
 /// Writes all of the bytes, by as many writes as it takes, and flushes none. After a fault a front of them was written.
-#[inline(always)]
 pub fn put_all<S: Sink>(sink: &mut S, bytes: &[u8]) -> Result<(), DeviceFault>
     ensures puts { Puts bytes.now result (turn S.written S.has_failed sink.old sink.new) }
     ensures waits { KeepsBack bytes.now result (S.is_flushed sink.old) (S.is_flushed sink.new) }

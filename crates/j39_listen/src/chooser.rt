@@ -60,6 +60,7 @@ impl<'f> Chooser<'f> {
     }
 
     /// The first frame has this stamp.
+    #[cold]
     #[inline(never)]
     fn begin(&mut self, first: Stamp)
         ensures { (which : FilterRecord) (f : FrameRecord) → f.stamp ≡ stamp_micros first → Chooses which self.old []

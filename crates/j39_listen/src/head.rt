@@ -107,6 +107,7 @@ impl Heads {
     }
 
     /// Makes the head of a sender, and remembers it.
+    #[cold]
     #[inline(never)]
     fn learn(&mut self, place: usize, address: u8, name: Option<Name>)
         requires { place < 256 }

@@ -1,21 +1,14 @@
 //! The report of what is heard on a bus, kept to the entries that a filter takes, as an account of its frames.
-ghost use Rattle.std.specs.Prelude.{◌≡◌, ◌∷◌, ◌++◌, [], List, IfOk, OnOk, Err, false, if◌then◌else◌, length, true};
+ghost use Rattle.std.specs.Prelude.{◌≡◌, [], IfOk, if◌then◌else◌, length};
 ghost use Rattle.std.specs.List.{flat_map};
 ghost use Rattle.j39_io.specs.Puts.{Puts};
 ghost use Rattle.j39_io.specs.Turn.{turn};
-ghost use Rattle.j39_frame.specs.Frame.{FrameRecord};
-ghost use Rattle.j39_frame.specs.Identifier.{pgn_of};
-ghost use Rattle.j39_groups.specs.Readings.{is_network_group, is_reported_in};
-ghost use Rattle.j39_listen.specs.AccountCalls.{LeavesWriter};
-ghost use Rattle.j39_listen.specs.Asking.{AsksForBoxes};
-ghost use Rattle.j39_listen.specs.Chooses.{Chooses, which_of};
+ghost use Rattle.j39_listen.specs.Chooses.{which_of};
 ghost use Rattle.j39_listen.specs.Counting.{capped};
-ghost use Rattle.j39_listen.specs.Filter.{FilterRecord, filtered_of};
+ghost use Rattle.j39_listen.specs.Filter.{filtered_of};
 ghost use Rattle.j39_listen.specs.HeardModel.{hearing_of};
-ghost use Rattle.j39_listen.specs.Listening.{Hears};
 ghost use Rattle.j39_listen.specs.Report.{entries_of};
-ghost use Rattle.j39_listen.specs.ReportSoFar.{HasReported, MeetsFrame, StopsFrame, made_sum};
-ghost use Rattle.j39_listen.specs.declared.account.LineFault.TheVariants as line_fault;
+ghost use Rattle.j39_listen.specs.ReportSoFar.{HasReported};
 
 use crate::account::{Account, LineFault};
 use crate::chooser::Chooser;
@@ -80,21 +73,27 @@ impl<'g, 't, E: EntryForm> Account for Report<'g, 't, E> {
         self.roles.passes_over(id) && self.chooser.is_begun()
     }
 
-    #[inline(always)]
+    /// It is no part of its caller, whose way for most lines so needs no room for what a message takes.
+    #[inline(never)]
     fn feed<W: Sink>(&mut self, _: &Bus, frame: &Frame, sink: &mut W) -> Result<(), LineFault> {
         let role = self.roles.of(frame.id);
         self.chooser.note(frame);
-        match put_frame(
-            &mut self.listener,
-            role.is_single,
-            frame,
-            &self.chooser,
-            &mut self.form,
-            &mut self.made,
-            sink,
-        ) {
-            Ok(()) => Ok(()),
-            Err(fault) => Err(fault),
+        match self.listener.feed_as(role.is_single, frame) {
+            Err(AllocError) => Err(LineFault::Memory),
+            Ok(None) => {
+                self.made = self.made.and(NOTHING);
+                Ok(())
+            }
+            Ok(Some(heard)) => {
+                let is_taken = self.chooser.takes(&heard);
+                match put_taken(is_taken, &heard, &mut self.form, sink) {
+                    Ok(lines) => {
+                        self.made = self.made.and(Made { messages: 1, lines });
+                        Ok(())
+                    }
+                    Err(DeviceFault) => Err(LineFault::Write),
+                }
+            }
         }
     }
 
@@ -115,53 +114,6 @@ const NOTHING: Made = Made {
     messages: 0,
     lines: 0,
 };
-
-/// Writes what the filter takes of what is heard at a frame of the run's bus. A message counts whether it is taken or not, and of
-/// the lines those that are written. The caller says whether messages of its group are heard in one frame.
-#[inline(always)]
-fn put_frame<E: EntryForm, W: Sink>(
-    listener: &mut Listener,
-    is_single: bool,
-    frame: &Frame,
-    chooser: &Chooser<'_>,
-    form: &mut E,
-    made: &mut Made,
-    sink: &mut W,
-) -> Result<(), LineFault>
-    requires { is_single ≡ true → is_network_group (pgn_of frame.now.id) ≡ false }
-    ensures met { OnOk result ((more : Made) × (made.new ≡ made_sum made.old more) × ((which : FilterRecord) (F : List FrameRecord)
-        → is_single ≡ is_reported_in (E.table_of form.old) (pgn_of frame.now.id) → Hears listener.old F
-        → Chooses which chooser.now (F ++ frame.now ∷ [])
-        → MeetsFrame E.text_by (record { rows = E.table_of form.old; which = which }) listener.new F frame.now more
-        (W.written sink.old) (W.written sink.new))) }
-    ensures table { OnOk result (E.table_of form.new ≡ E.table_of form.old) }
-    ensures writer { LeavesWriter result (turn W.written W.has_failed sink.old sink.new) }
-    ensures stops { result ≡ Err line_fault.Write → (which : FilterRecord) (F : List FrameRecord)
-        → is_single ≡ is_reported_in (E.table_of form.old) (pgn_of frame.now.id) → Hears listener.old F
-        → Chooses which chooser.now (F ++ frame.now ∷ [])
-        → StopsFrame E.text_by (record { rows = E.table_of form.old; which = which }) F frame.now (W.written sink.old) (W.written sink.new) }
-    ensures asked { result ≡ Err line_fault.Memory → (F : List FrameRecord) → Hears listener.old F
-        → AsksForBoxes F frame.now }
-    ensures refused { result ≡ Err line_fault.Memory → (listener.new ≡ listener.old) × (made.new ≡ made.old) }
-{
-    match listener.feed_as(is_single, frame) {
-        Err(AllocError) => Err(LineFault::Memory),
-        Ok(None) => {
-            *made = made.and(NOTHING);
-            Ok(())
-        }
-        Ok(Some(heard)) => {
-            let is_taken = chooser.takes(&heard);
-            match put_taken(is_taken, &heard, form, sink) {
-                Ok(lines) => {
-                    *made = made.and(Made { messages: 1, lines });
-                    Ok(())
-                }
-                Err(DeviceFault) => Err(LineFault::Write),
-            }
-        }
-    }
-}
 
 /// Writes the entries of a message if it is taken, and answers how many.
 #[inline(always)]
