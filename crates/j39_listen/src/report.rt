@@ -73,7 +73,8 @@ impl<'g, 't, E: EntryForm> Account for Report<'g, 't, E> {
         self.roles.passes_over(id) && self.chooser.is_begun()
     }
 
-    /// It is no part of its caller, whose way for most lines so needs no room for what a message takes.
+    /// A message counts whether it is taken or not, and of the lines those that are written. It is no part of its caller, whose
+    /// way for most lines so needs no room for what a message takes.
     #[inline(never)]
     fn feed<W: Sink>(&mut self, _: &Bus, frame: &Frame, sink: &mut W) -> Result<(), LineFault> {
         let role = self.roles.of(frame.id);
