@@ -27,6 +27,12 @@ pub record AreLines (bytes : List ℕ) (lines : List (List ℕ)) : Type 0 where
   pub whole : AllByRecursion HasNoNewline lines
   pub bytes_are : (bytes ≡ ended lines) ⊎ LacksLastNewline bytes lines
 
+-- what is read of bytes up to a place: the lines that have ended, and what is begun behind them
+pub record AreReadTo (bytes : List ℕ) (lines : List (List ℕ)) (begun : List ℕ) : Type 0 where
+  pub whole : AllByRecursion HasNoNewline lines
+  pub rest : HasNoNewline begun
+  pub bytes_are : bytes ≡ ended lines ++ begun
+
 -- each line spells its own
 abbrev pub SpellEach : List (List ℕ) → List Spelled → Type 0
 SpellEach [] [] = Unit {0}
