@@ -284,13 +284,9 @@ impl<'t> ReadingVisitor<'t, ()> for Rows<'t> {
 
     #[inline(always)]
     fn visit(&mut self, spn: u32, value: Value<'t, '_>, _: &mut ()) -> Result<(), AllocError> {
-        match value {
-            Value::On => self.note_word(spn, Word::On),
-            Value::Off => self.note_word(spn, Word::Off),
-            Value::Error => self.note_word(spn, Word::Error),
-            Value::Reserved => self.note_word(spn, Word::Reserved),
-            Value::Indicator => self.note_word(spn, Word::Indicator),
-            _ => self.note_value(spn, fields_of(value)),
+        match Word::of(value) {
+            Some(word) => self.note_word(spn, word),
+            None => self.note_value(spn, fields_of(value)),
         }
     }
 

@@ -1,5 +1,5 @@
 //! What is kept of the values of one origin.
-ghost use Rattle.std.specs.Prelude.{◌≡◌, ◌+◌, ◌-◌, ◌^◌, None, OnErr, OnOk, IfOk, Some};
+ghost use Rattle.std.specs.Prelude.{◌≡◌, ◌+◌, None, OnErr, OnOk, IfOk, Some};
 ghost use Rattle.std.specs.Option.{option_map};
 ghost use Rattle.j39_frame.specs.Stamp.{stamp_micros};
 ghost use Rattle.j39_groups.specs.Models.{scale_record, value_of};
@@ -131,30 +131,11 @@ impl<'t> Statistics<'t> {
         ensures range { self.new.range ≡ self.old.range }
         ensures lead { self.new.lead ≡ self.old.lead }
     {
-        count_up(&mut self.count);
+        self.count = self.count.saturating_add(1);
         self.words = self.words.saturating_add(u64::from(is_word));
         self.last.stamp = stamp;
         self.last.value.set(value);
     }
-}
-
-/// One more; a count that would pass 2^64 - 1 stays there.
-#[inline(always)]
-fn count_up(count: &mut u64)
-    ensures { count.new ≡ capped (count.old + 1) }
-{
-    *count = count.wrapping_add(1);
-    if *count == 0 {
-        fill(count);
-    }
-}
-
-/// The most that is counted. It is a call, as a branch that isn't taken costs less than to hold this number ready.
-#[inline(never)]
-fn fill(count: &mut u64)
-    ensures { count.new ≡ 2 ^ 64 - 1 }
-{
-    *count = u64::MAX;
 }
 
 /// One value more of an origin that has a row.

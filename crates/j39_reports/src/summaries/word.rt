@@ -1,5 +1,5 @@
 //! Values that are words.
-ghost use Rattle.std.specs.Prelude.{◌≡◌};
+ghost use Rattle.std.specs.Prelude.{◌≡◌, IfSome};
 ghost use Rattle.j39_groups.specs.Models.{value_of};
 ghost use Rattle.j39_reports.specs.RowModels.{word_value};
 
@@ -16,6 +16,22 @@ pub(crate) enum Word {
 }
 
 impl Word {
+    /// That of a value, if it is one.
+    #[inline(always)]
+    pub fn of(value: Value<'_, '_>) -> Option<Word>
+        ensures { IfSome result (λ word. word_value word ≡ value_of value.entry) }
+    {
+        match value {
+            Value::On => Some(Word::On),
+            Value::Off => Some(Word::Off),
+            Value::Error => Some(Word::Error),
+            Value::Reserved => Some(Word::Reserved),
+            Value::Indicator => Some(Word::Indicator),
+            Value::Number(_, _) => None,
+            Value::Text(_) => None,
+        }
+    }
+
     /// The value itself.
     #[inline(always)]
     pub fn value<'t, 'v>(self) -> Value<'t, 'v>
