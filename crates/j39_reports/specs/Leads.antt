@@ -1,5 +1,5 @@
 -- Rows that lead others: of the same sender, destination, NAME and group.
-use Rattle.std.specs.Prelude.{◌≡◌, ◌<◌, ◌++◌, ◌∷◌, [], ℕ, Bool, true, List, get_or, length, map}
+use Rattle.std.specs.Prelude.{◌≡◌, ◌<◌, ◌+◌, ◌*◌, ◌%◌, ◌++◌, ◌∷◌, [], ℕ, Bool, true, List, get_or, length, map}
 use Rattle.std.specs.Map.{keys_of}
 use Rattle.j39_frame.specs.Origin.{is_same}
 use Rattle.j39_frame.specs.declared.origin.Origin.{Origin}
@@ -38,3 +38,7 @@ KeepsLeads old new = (keys_of new ≡ keys_of old) × (leads_of new ≡ leads_of
 -- an origin more, with where its lead stands
 abbrev pub AddsLead : ℕ → Origin → List (Origin × Statistics) → List (Origin × Statistics) → Type 0
 AddsLead lead k old new = (keys_of new ≡ keys_of old ++ k ∷ []) × (leads_of new ≡ leads_of old ++ lead ∷ [])
+
+-- where a guess is kept of where what has this address and this number stands, of a parameter or of a group
+abbrev pub guess_place : ℕ → ℕ → ℕ
+guess_place address number = (address * 37 + number) % 1024

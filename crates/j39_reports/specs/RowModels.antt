@@ -13,6 +13,8 @@ use Rattle.j39_reports.specs.declared.summaries.statistics.NumberRange.{NumberRa
 use Rattle.j39_reports.specs.declared.summaries.stored_value.StoredValue.{StoredValue}
 use Rattle.j39_reports.specs.declared.summaries.stored_value.StoredValue.TheVariants as kept
 use Rattle.j39_reports.specs.declared.summaries.stored_value.StoredValue.TheVariants.{On, Off, Error, Reserved, Indicator, Text}
+use Rattle.j39_reports.specs.declared.summaries.word.Word.{Word}
+use Rattle.j39_reports.specs.declared.summaries.word.Word.TheVariants as word
 use Rattle.j39_frame.specs.declared.origin.Origin.{Origin}
 
 abbrev pub kept_value : StoredValue → ValueRecord
@@ -23,6 +25,13 @@ kept_value Error = error
 kept_value Reserved = reserved
 kept_value Indicator = indicator
 kept_value (Text copy) = text (value_of copy).items
+
+abbrev pub word_value : Word → ValueRecord
+word_value word.On = on
+word_value word.Off = off
+word_value word.Error = error
+word_value word.Reserved = reserved
+word_value word.Indicator = indicator
 
 abbrev pub entry_at : Origin → ℕ → ValueRecord → Entry
 entry_at origin stamp value = record {

@@ -5,7 +5,7 @@ use Rattle.std.specs.List.{list_any}
 use Rattle.j39_memory.specs.ByOrigin.{pairs_of}
 use Rattle.j39_frame.specs.Origin.{is_same}
 use Rattle.j39_groups.specs.Sightings.{SightingRecord, absent, absent_in, told, told_in}
-use Rattle.j39_groups.specs.Value.{ValueRecord}
+use Rattle.j39_groups.specs.Value.{ReadingRecord, ValueRecord}
 use Rattle.j39_groups.specs.Visits.{StopsAt}
 use Rattle.j39_listen.specs.Counting.{capped}
 use Rattle.j39_listen.specs.Heard.{Hearing}
@@ -97,3 +97,8 @@ pub record WasRefused (message : Message) (rows : Rows) (sightings : List Sighti
 -- the rows have taken these, or memory was refused at one of them
 abbrev pub GoesOn : Message → Rows → List SightingRecord → Type 0
 GoesOn message rows sightings = (HasTaken message rows sightings × (rows.is_refused ≡ false)) ⊎ WasRefused message rows sightings
+
+-- behind whatever was handed to them, they have taken this reading too, or memory was refused
+abbrev pub TakesReading : Rows → Rows → ReadingRecord → Type 0
+TakesReading old new reading = (message : Message) (before : List SightingRecord) → GoesOn message old before
+    → GoesOn message new (before ++ told reading ∷ [])

@@ -4,12 +4,12 @@ mod absences;
 mod account;
 mod guesses;
 pub mod laws;
-mod leads;
 mod lines;
 mod message_head;
 mod rows;
 mod statistics;
 mod stored_value;
+mod word;
 
 pub use account::{SummaryWanted, summary};
 pub use guesses::Guesses;

@@ -8,14 +8,14 @@ use j39_address::Name;
 use j39_frame::{Origin, Stamp};
 use j39_listen::Heard;
 
-/// The moment, the sender, the destination and the group of a message.
+/// The moment, the sender, the destination and the group of a message; what is small stands side by side, with little between.
 #[derive(Clone, Copy, Debug)]
 pub struct MessageHead {
     pub stamp: Stamp,
-    pub address: u8,
-    pub destination: Option<u8>,
     pub name: Option<u64>,
     pub pgn: u32,
+    pub address: u8,
+    pub destination: Option<u8>,
 }
 
 impl MessageHead {

@@ -10,9 +10,9 @@ ghost use Rattle.j39_reports.specs.Leads.{AreLed, LeadsHead, leads_of};
 
 use crate::summaries::absences::Absences;
 use crate::summaries::guesses::Guesses;
-use crate::summaries::leads::Leads;
 use crate::summaries::message_head::MessageHead;
 use crate::summaries::statistics::{AddedValue, Statistics};
+use crate::summaries::word::Word;
 use j39_groups::{ReadingVisitor, Slot, Value};
 use j39_listen::Heard;
 use j39_memory::ByOrigin;
@@ -27,7 +27,8 @@ pub(crate) struct Rows<'t> {
     pub absences: Absences,
     alloc: Global,
     head: MessageHead,
-    leads: Leads,
+    /// Where a row of the last messages stands, by address and group.
+    leads: Guesses,
     /// Where the row that leads those of the message's head stands, or [`NOWHERE`] while that isn't known.
     lead: usize,
     /// Where the row of the next value stands, if that is the row behind the last one's.
@@ -44,16 +45,16 @@ pub(crate) struct Rows<'t> {
 const NOWHERE: usize = usize::MAX;
 
 impl<'t> Rows<'t> {
-    ghost use Rattle.std.specs.Prelude.{◌++◌, ◌∷◌, [], List, IfSome, OnOk, OnErr, None, false};
+    ghost use Rattle.std.specs.Prelude.{◌++◌, ◌∷◌, [], List, IfSome, IsOk, OnOk, OnErr, None, false};
     ghost use Rattle.j39_frame.specs.Origin.{place_in};
     ghost use Rattle.j39_frame.specs.Stamp.{stamp_micros};
     ghost use Rattle.j39_listen.specs.Report.{Entry};
     ghost use Rattle.j39_listen.specs.HeardModel.{hearing_of};
     ghost use Rattle.j39_frame.specs.declared.origin.Origin.{Origin};
     ghost use Rattle.j39_reports.specs.Leads.{AddsLead, KeepsLeads};
-    ghost use Rattle.j39_reports.specs.RowsSoFar.{AreCounted, AreRowsOf, HasTaken};
+    ghost use Rattle.j39_reports.specs.RowsSoFar.{AreCounted, AreRowsOf, HasTaken, TakesReading};
     ghost use Rattle.j39_reports.specs.MessageHeads.{origin_in};
-    ghost use Rattle.j39_reports.specs.RowModels.{entry_at};
+    ghost use Rattle.j39_reports.specs.RowModels.{entry_at, word_value};
     ghost use Rattle.j39_reports.specs.SummaryRun.{WantsRow};
 
     /// No rows.
@@ -67,7 +68,7 @@ impl<'t> Rows<'t> {
             absences: Absences::new(alloc),
             alloc,
             head: MessageHead::new(),
-            leads: Leads::new(),
+            leads: Guesses::new(),
             lead: NOWHERE,
             next: NOWHERE,
             is_refused: false,
@@ -83,7 +84,8 @@ impl<'t> Rows<'t> {
         ensures free { self.new.is_refused ≡ false }
     {
         self.head = MessageHead::of(heard);
-        self.lead = known_lead(&self.rows, self.leads.place_of(&self.head), &self.head);
+        let guess = self.leads.guess(self.head.address, self.head.pgn);
+        self.lead = known_lead(&self.rows, guess, &self.head);
         self.next = self.lead;
         self.is_refused = false;
     }
@@ -144,7 +146,8 @@ impl<'t> Rows<'t> {
             Some(place) => {
                 let (_, statistics) = self.rows.pair_at(place);
                 self.lead = statistics.lead;
-                self.leads.set(&self.head, self.lead);
+                self.leads
+                    .remember(self.head.address, self.head.pgn, self.lead);
                 self.next = place + 1;
                 Self::take(&mut self.rows, self.alloc, place, &self.head, spn, value)
             }
@@ -153,11 +156,35 @@ impl<'t> Rows<'t> {
                 let lead = self.lead.min(place);
                 Self::add(&mut self.rows, self.alloc, lead, &self.head, spn, value)?;
                 self.lead = lead;
-                self.leads.set(&self.head, lead);
+                self.leads.remember(self.head.address, self.head.pgn, lead);
                 self.next = place + 1;
                 Ok(())
             }
         }
+    }
+
+    /// Takes a value to its row; where memory was refused is noted, and no fault.
+    #[inline(always)]
+    fn note_value(&mut self, spn: u32, value: Value<'t, '_>) -> Result<(), AllocError>
+        ensures noted { TakesReading self.old self.new (record { spn = spn; value = value_of value.entry }) }
+        ensures goes_on { IsOk result }
+    {
+        match self.take_value(spn, value) {
+            Ok(()) => Ok(()),
+            Err(AllocError) => {
+                self.is_refused = true;
+                Ok(())
+            }
+        }
+    }
+
+    /// The same for a word, of which no more than itself is handed on.
+    #[inline(never)]
+    fn note_word(&mut self, spn: u32, word: Word) -> Result<(), AllocError>
+        ensures noted { TakesReading self.old self.new (record { spn = spn; value = word_value word }) }
+        ensures goes_on { IsOk result }
+    {
+        self.note_value(spn, word.value())
     }
 
     /// Takes a value to its row, which stands at this place.
@@ -257,12 +284,9 @@ impl<'t> ReadingVisitor<'t, ()> for Rows<'t> {
 
     #[inline(always)]
     fn visit(&mut self, spn: u32, value: Value<'t, '_>, _: &mut ()) -> Result<(), AllocError> {
-        match self.take_value(spn, fields_of(value)) {
-            Ok(()) => Ok(()),
-            Err(AllocError) => {
-                self.is_refused = true;
-                Ok(())
-            }
+        match Word::of(value) {
+            Some(word) => self.note_word(spn, word),
+            None => self.note_value(spn, fields_of(value)),
         }
     }
 

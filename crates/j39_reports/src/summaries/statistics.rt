@@ -1,5 +1,5 @@
 //! What is kept of the values of one origin.
-ghost use Rattle.std.specs.Prelude.{◌≡◌, ◌+◌, None, OnErr, OnOk, IfOk, Some};
+ghost use Rattle.std.specs.Prelude.{◌≡◌, ◌==◌, ◌+◌, ◌-◌, ◌^◌, if◌then◌else◌, None, OnErr, OnOk, IfOk, Some};
 ghost use Rattle.std.specs.Option.{option_map};
 ghost use Rattle.j39_frame.specs.Stamp.{stamp_micros};
 ghost use Rattle.j39_groups.specs.Models.{scale_record, value_of};
@@ -131,10 +131,30 @@ impl<'t> Statistics<'t> {
         ensures range { self.new.range ≡ self.old.range }
         ensures lead { self.new.lead ≡ self.old.lead }
     {
-        self.count = self.count.saturating_add(1);
+        self.count = self.count.wrapping_add(1);
         self.words = self.words.saturating_add(u64::from(is_word));
         self.last.stamp = stamp;
-        self.last.value.set(value);
+        if self.count == 0 || self.last.value.is_text() {
+            self.put_rarely(value);
+            return;
+        }
+        self.last.value = value;
+    }
+
+    /// What a row seldom has: a text to give back, or a count that passed 2^64 - 1, where it is to stay.
+    #[inline(never)]
+    fn put_rarely(&mut self, value: StoredValue<'t>)
+        ensures count { self.new.count ≡ if self.old.count == 0 then 2 ^ 64 - 1 else self.old.count }
+        ensures words { self.new.words ≡ self.old.words }
+        ensures first { self.new.first ≡ self.old.first }
+        ensures last { self.new.last ≡ record { stamp = self.old.last.stamp; value = value.entry } }
+        ensures range { self.new.range ≡ self.old.range }
+        ensures lead { self.new.lead ≡ self.old.lead }
+    {
+        if self.count == 0 {
+            self.count = u64::MAX;
+        }
+        self.last.value = value;
     }
 }
 

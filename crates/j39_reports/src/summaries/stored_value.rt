@@ -47,24 +47,10 @@ impl<'t> StoredValue<'t> {
         }
     }
 
-    /// It is this value now. Most were no text before, so there is no memory to give back.
+    /// Whether it holds memory, which a text alone does.
     #[inline(always)]
-    pub(crate) fn set(&mut self, value: StoredValue<'t>)
-        ensures { self.new ≡ value.entry }
-    {
-        if let StoredValue::Text(_) = self {
-            self.replace(value);
-            return;
-        }
-        *self = value;
-    }
-
-    /// It is this value now, off the quick path.
-    #[inline(never)]
-    fn replace(&mut self, value: StoredValue<'t>)
-        ensures { self.new ≡ value.entry }
-    {
-        *self = value;
+    pub(crate) fn is_text(&self) -> bool {
+        matches!(self, StoredValue::Text(_))
     }
 
     /// The value itself.

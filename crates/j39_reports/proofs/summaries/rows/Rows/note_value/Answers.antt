@@ -1,5 +1,5 @@
 -- The reading goes to its row, and what is not available stays; or memory was refused.
-use Rattle.j39_reports.proofs.Common.{◌≡◌, ◌∙◌, ◌∷◌, ◌++◌, [], ap, inl, inr, refl, true, List, pairs_of, stamp_micros, subst, told, Entry, SightingRecord, ReadingRecord, ValueRecord, entry_of}
+use Rattle.j39_reports.proofs.Common.{◌≡◌, ◌∙◌, ◌∷◌, ◌++◌, [], inl, inr, refl, true, List, pairs_of, stamp_micros, subst, told, Entry, SightingRecord, ReadingRecord, entry_of}
 use Rattle.j39_reports.specs.RowModels.{entry_at}
 use Rattle.j39_reports.specs.RowsSoFar.{AreRowsOf, GoesOn, HasTaken, Message}
 use Rattle.j39_reports.specs.SummaryRun.{WantsRow}
@@ -7,20 +7,20 @@ use Rattle.j39_reports.specs.MessageHeads.{origin_in}
 use Rattle.j39_reports.specs.declared.summaries.rows.Rows.{Rows}
 use Rattle.j39_reports.proofs.HeadLemmas.{entry_with}
 use Rattle.j39_reports.proofs.TakenLemmas.{counts_keep, refused_more, refused_now, told_more}
-use Rattle.j39_reports.proofs.summaries.rows.RowsReadingVisitorUnit.visit.Goals as goal
+use Rattle.j39_reports.proofs.summaries.rows.Rows.note_value.Goals as goal
 
-module _ (old new : Rows) (r : ReadingRecord) (value : ValueRecord) (same : value ≡ r.value) where
+module _ (old new : Rows) (r : ReadingRecord) where
   entry : Entry
-  entry = entry_at (origin_in old.head r.spn) (stamp_micros old.head.stamp) value
+  entry = entry_at (origin_in old.head r.spn) (stamp_micros old.head.stamp) r.value
 
   is : (message : Message) (before : List SightingRecord) → HasTaken message old before → entry ≡ entry_of message.hearing r
   unfolding entry
-  is message before has = ap (entry_at (origin_in old.head r.spn) (stamp_micros old.head.stamp)) same ∙ entry_with old.head message.hearing r has.head_is
+  is message before has = entry_with old.head message.hearing r has.head_is
 
   -- the rows have the reading's entry
   took : new.head ≡ old.head → new.absences ≡ old.absences → new.is_refused ≡ old.is_refused
       → ((es : List Entry) → AreRowsOf (pairs_of old.rows) es
-      → AreRowsOf (pairs_of new.rows) (es ++ entry_at (origin_in old.head r.spn) (stamp_micros old.head.stamp) value ∷ []))
+      → AreRowsOf (pairs_of new.rows) (es ++ entry_at (origin_in old.head r.spn) (stamp_micros old.head.stamp) r.value ∷ []))
       → (message : Message) (before : List SightingRecord) → GoesOn message old before → GoesOn message new (before ++ told r ∷ [])
   unfolding entry
   took head absences still taken message before goes = elim goes [
@@ -37,7 +37,7 @@ module _ (old new : Rows) (r : ReadingRecord) (value : ValueRecord) (same : valu
 
   -- memory was refused
   refuses : new.is_refused ≡ true
-      → ((es : List Entry) → AreRowsOf (pairs_of old.rows) es → WantsRow es (entry_at (origin_in old.head r.spn) (stamp_micros old.head.stamp) value))
+      → ((es : List Entry) → AreRowsOf (pairs_of old.rows) es → WantsRow es (entry_at (origin_in old.head r.spn) (stamp_micros old.head.stamp) r.value))
       → (message : Message) (before : List SightingRecord) → GoesOn message old before → GoesOn message new (before ++ told r ∷ [])
   unfolding entry
   refuses refused wants message before goes = elim goes [
@@ -45,9 +45,9 @@ module _ (old new : Rows) (r : ReadingRecord) (value : ValueRecord) (same : valu
     | inr was ↦ inr (refused_more message old new before (told r) refused was)
   ]
 
-pub returns-in-Ok-clause-taken : goal.returns-in-Ok-clause-taken
-returns-in-Ok-clause-taken c = λ message before goes.
-    took _ _ _ _ c.fields_of.ensures c.in-Ok.ensures.head c.in-Ok.ensures.absences c.in-Ok.ensures.refused c.in-Ok.ensures.taken message before goes
+pub returns-in-Ok-clause-noted : goal.returns-in-Ok-clause-noted
+returns-in-Ok-clause-noted c = λ message before goes.
+    took _ _ _ c.in-Ok.ensures.head c.in-Ok.ensures.absences c.in-Ok.ensures.refused c.in-Ok.ensures.taken message before goes
 
-pub returns-in-Err-clause-taken : goal.returns-in-Err-clause-taken
-returns-in-Err-clause-taken c = λ message before goes. refuses _ _ _ _ c.fields_of.ensures refl c.in-Err.ensures.wanted message before goes
+pub returns-in-Err-clause-noted : goal.returns-in-Err-clause-noted
+returns-in-Err-clause-noted c = λ message before goes. refuses _ _ _ refl c.in-Err.ensures.wanted message before goes
