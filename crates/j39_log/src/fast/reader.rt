@@ -127,6 +127,7 @@ fn formed<'a>(
         second,
         id,
         data,
+        values: values.to_array(),
     };
     Some((line, rest))
 }
