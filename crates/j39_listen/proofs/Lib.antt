@@ -25,6 +25,7 @@ pub mod CountLemmas
 pub mod RunLemmas
 pub mod StopLemmas
 pub mod PieceLemmas
+pub mod PassLemmas
 pub mod DigitLemmas
 pub mod AskLemmas
 pub mod HeadedLemmas

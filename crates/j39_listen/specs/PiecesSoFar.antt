@@ -24,6 +24,14 @@ pub record ReadsLine {A : Type 0} (has_met : Meeting A) (s : Spelled) (p p' : Li
   pub meets : MeetsLine has_met s p.bus p'.bus p.account p'.account met old new
   pub tally_is : p'.tally ≡ sum_of p.tally met
 
+-- so many frames more were counted
+abbrev pub with_passed : {A : Type 0} → Lines A → ℕ → Lines A
+with_passed p n = record {
+  bus = p.bus;
+  account = p.account;
+  tally = sum_of p.tally (record { frames = n; other = 0; unread = 0 });
+}
+
 -- a fault of the writer in what a line spells
 abbrev pub StopsAt : {A : Type 0} → Meeting A → Making → Spelled → Lines A → Option (List ℕ) → Option (List ℕ)
     → Type 0
@@ -82,6 +90,16 @@ pub record HasTaken {A : Type 0} (has_met : Meeting A) (given : Option (List ℕ
   pub begun : List ℕ
   pub begins : HasBegun run.splitter begun
   pub has_read : HasRead has_met given taken begun run.lines old new
+
+-- the bytes before the rest are so many lines, or none, at which nothing is written: with them the run has read all that it
+-- stands for, and what it had begun
+pub record PassesOver {S A : Type 0} (has_met : S → Meeting A) (run : Pieces A) (bytes : List ℕ) (lines : ℕ)
+    (rest : List ℕ) : Type 0 where
+  pub done : List ℕ
+  pub bytes_are : bytes ≡ done ++ rest
+  pub reads : (subject : S) (given : Option (List ℕ)) (taken : List ℕ) (before held : Option (List ℕ))
+      → (h : HasTaken (has_met subject) given taken run before held)
+      → HasRead (has_met subject) given (taken ++ done) h.begun (with_passed run.lines lines) before held
 
 -- the whole lines of the bytes that were taken were met, and behind a head all that is made of their frames so far was written
 pub record KeepsUp {A : Type 0} (has_met : Meeting A) (head : List ℕ) (given remaining remaining' old new : Option (List ℕ))

@@ -10,7 +10,7 @@ ghost use Rattle.j39_log.specs.Splitter.{IsRawLine};
 ghost use Rattle.j39_listen.specs.AccountCalls.{LeavesWriter, Meets};
 ghost use Rattle.j39_listen.specs.WantsMemory.{AsksAs, AsksLine};
 ghost use Rattle.j39_listen.specs.LinesSoFar.{IsSpelling, MeetsLine, StopsLine, met_tally};
-ghost use Rattle.j39_listen.specs.PiecesSoFar.{HasMetAll, ReadsAs, ReadsLine, StopsAs, StopsAt, WritesAll, WritesSome};
+ghost use Rattle.j39_listen.specs.PiecesSoFar.{HasMetAll, ReadsAs, ReadsLine, StopsAs, StopsAt, WritesAll, WritesSome, with_passed};
 ghost use Rattle.j39_listen.specs.declared.account.LineFault.TheVariants.{Memory, Write};
 
 use crate::Counts;
@@ -65,14 +65,15 @@ impl<A: Account> Lines<A> {
         self.read(raw.read(), sink)
     }
 
-    /// Counts the line of a frame of the bus of which nothing is made.
+    /// Counts so many lines of frames of the bus of which nothing is made.
     #[inline(always)]
-    pub fn pass_over(&mut self)
-        ensures { (subject : A.Subject) (name : List ℕ) (frame : FrameRecord) (held : Option (List ℕ)) → self.old.bus ≡ Some name
-            → Meets (A.has_met subject name) self.old.account self.old.account (frame ∷ []) held held
-            → ReadsLine (A.has_met subject) (spelled_frame name frame) self.old self.new held held }
+    pub fn pass_over(&mut self, lines: u64)
+        ensures { self.new ≡ with_passed self.old lines }
     {
-        self.tally = self.tally.with(Met::Frame);
+        self.tally = self.tally.and(Tally {
+            frames: lines,
+            ..Tally::default()
+        });
     }
 
     /// Takes the line of this frame, where the bus is known and the frame is one of it, as `read` does: no line goes by

@@ -1,5 +1,5 @@
 //! A run over pieces of a log.
-ghost use Rattle.std.specs.Prelude.{◌≡◌, ◌≢◌, ◌<◌, ◌≤◌, ◌++◌, ℕ, List, [], Option, true, OnOk, OnErr, IfOk, Err, length};
+ghost use Rattle.std.specs.Prelude.{◌≡◌, ◌≢◌, ◌<◌, ◌≤◌, ◌++◌, ℕ, List, [], Option, true, OnOk, OnErr, IfOk, IfSome, Err, length};
 ghost use Rattle.std.specs.Io.KnownBytes.{Keeps};
 ghost use Rattle.j39_io.specs.Turn.{turn};
 ghost use Rattle.j39_log.specs.FrameLine.{BeginsStamp, HasLine};
@@ -7,7 +7,7 @@ ghost use Rattle.j39_log.specs.Splitter.{HasBegun};
 ghost use Rattle.j39_listen.specs.AccountCalls.{LeavesWriter};
 ghost use Rattle.j39_listen.specs.Asking.{AsksAmong};
 ghost use Rattle.j39_listen.specs.WantsMemory.{AsksIn, AsksLast};
-ghost use Rattle.j39_listen.specs.PiecesSoFar.{AtStart, Behind, HasTaken, ReadsLast, StepsOver, StopsIn, StopsLast};
+ghost use Rattle.j39_listen.specs.PiecesSoFar.{AtStart, Behind, HasTaken, PassesOver, ReadsLast, StepsOver, StopsIn, StopsLast};
 ghost use Rattle.j39_listen.specs.Run.{HasMetLog, Writes, WritesFront, WritesFrontOfMore};
 ghost use Rattle.j39_listen.specs.declared.account.LineFault.TheVariants.{Memory, Write};
 
@@ -97,13 +97,44 @@ impl<A: Account> Pieces<A> {
         A::laws();
         let mut rest = piece;
         while !rest.is_empty() {
-            let n = match self.take_line(rest, sink) {
+            let (lines, behind, found) = self.lines_passed(rest);
+            self.lines.pass_over(lines);
+            let n = match self.take_line(found, behind, sink) {
                 Ok(n) => n,
                 Err(fault) => return Err(fault),
             };
-            (_, rest) = rest.split_at(n);
+            (_, rest) = behind.split_at(n);
         }
         Ok(())
+    }
+
+    /// How many lines the bytes begin with of which all is remembered and nothing is to be made, where nothing is begun; what
+    /// follows them, and the line that it begins with, where that one is to be taken. Nothing is changed, so the loop has no call.
+    #[inline(always)]
+    fn lines_passed<'a>(&self, bytes: &'a [u8]) -> (u64, &'a [u8], Option<(FrameLine<'a>, usize)>)
+        ensures passed { PassesOver A.has_met self.now bytes.now result.0 result.1.now }
+        ensures line { IfSome result.2 (λ found. (begun : List ℕ) → HasBegun self.now.splitter begun
+            → HasLine self.now.splitter begun result.1.now self.now.lines.bus found.0 found.1) }
+        ensures stamped { IfSome result.2 (λ found. BeginsStamp found.0) }
+        ensures count { IfSome result.2 (λ found. found.1 ≤ length result.1.now) }
+        ensures some { IfSome result.2 (λ found. 0 < found.1) }
+    {
+        let Some(bus) = &self.lines.bus else {
+            return (0, bytes, None);
+        };
+        if !self.splitter.is_between_lines() {
+            return (0, bytes, None);
+        }
+        let mut rest = bytes;
+        let mut passed = 0;
+        while let Some((line, behind)) = self.last.line_on(rest, bus) {
+            if !self.lines.account.passes_over(line.id) {
+                return (passed, rest, Some((line, rest.len() - behind.len())));
+            }
+            passed += 1;
+            rest = behind;
+        }
+        (passed, rest, None)
     }
 
     /// Reads the last line where it is not ended, closes the account, and passes on what was written.
@@ -134,8 +165,19 @@ impl<A: Account> Pieces<A> {
         }
     }
 
-    /// Takes the bytes to the end of a line, which it reads, or all of them: how many it took.
-    fn take_line<W: Sink>(&mut self, bytes: &[u8], sink: &mut W) -> Result<usize, LineFault>
+    /// Takes the bytes to the end of a line, which it reads, or all of them: how many it took. The line that they begin with
+    /// may have been found.
+    fn take_line<W: Sink>(
+        &mut self,
+        found: Option<(FrameLine<'_>, usize)>,
+        bytes: &[u8],
+        sink: &mut W,
+    ) -> Result<usize, LineFault>
+        requires line { IfSome found (λ found. (begun : List ℕ) → HasBegun self.old.splitter begun
+            → HasLine self.old.splitter begun bytes.now self.old.lines.bus found.0 found.1) }
+        requires stamped { IfSome found (λ found. BeginsStamp found.0) }
+        requires within { IfSome found (λ found. found.1 ≤ length bytes.now) }
+        requires some { IfSome found (λ found. 0 < found.1) }
         ensures count { IfOk result (λ n. n ≤ length bytes.now) }
         ensures some { IfOk result (λ n. 0 < length bytes.now → 0 < n) }
         ensures steps { IfOk result (λ n. (subject : A.Subject) (begun : List ℕ) → HasBegun self.old.splitter begun
@@ -148,12 +190,15 @@ impl<A: Account> Pieces<A> {
         ensures asked { result ≡ Err Memory → (subject : A.Subject) (begun : List ℕ) → HasBegun self.old.splitter begun
             → AsksIn (A.has_met subject) (A.asks subject) begun bytes.now self.old.lines }
     {
+        if let Some((line, n)) = found {
+            return self.take_frame(&line, n, bytes, sink);
+        }
         let bus = &self.lines.bus;
         let Some((line, n)) = self.splitter.line_on(bytes, &mut self.last, bus) else {
             return self.take_any(bytes, sink);
         };
         if self.lines.account.passes_over(line.id) {
-            self.lines.pass_over();
+            self.lines.pass_over(1);
             return Ok(n);
         }
         self.take_frame(&line, n, bytes, sink)

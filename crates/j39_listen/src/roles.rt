@@ -74,8 +74,8 @@ impl<'g, 't> Roles<'g, 't> {
         ensures { result ≡ true → is_heard self.now.groups.now (id_raw id) ≡ false }
     {
         let raw = id.raw();
-        let known = self.known[place_of(raw)];
-        known.id == raw && !known.role.is_heard
+        let place = place_of(raw);
+        self.known[place].id == raw && !self.known[place].role.is_heard
     }
 
     /// Asks the table, and remembers what it says.

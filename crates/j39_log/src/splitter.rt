@@ -1,5 +1,5 @@
 //! A log's lines, out of its bytes in pieces.
-ghost use Rattle.std.specs.Prelude.{◌≡◌, ◌<◌, ◌≤◌, ◌++◌, ℕ, List, [], length, IfSome, MatchOption, false};
+ghost use Rattle.std.specs.Prelude.{◌≡◌, ◌<◌, ◌≤◌, ◌++◌, ℕ, List, [], length, IfSome, MatchOption, false, true};
 ghost use Rattle.std.specs.Borrow.{sem};
 ghost use Rattle.std.specs.Io.BufRead.{Rests};
 
@@ -44,6 +44,14 @@ impl Splitter {
             has_more: false,
             has_ended: false,
         }
+    }
+
+    /// Whether nothing is begun. `false` says nothing.
+    #[inline(always)]
+    pub fn is_between_lines(&self) -> bool
+        ensures { result ≡ true → (begun : List ℕ) → HasBegun self.now begun → begun ≡ [] }
+    {
+        self.kept.is_empty()
     }
 
     /// The line of a frame of this bus that the piece begins with, and how many bytes it has with its newline, where nothing was

@@ -1,6 +1,5 @@
 //! Identifiers by their digits, remembered: most lines have one of a few.
-ghost use Rattle.std.specs.Prelude.{◌≡◌, ◌<◌, IfSome, None};
-ghost use Rattle.std.specs.Int.{to_le_bytes, w64};
+ghost use Rattle.std.specs.Prelude.{◌<◌, IfSome};
 ghost use Rattle.std.proofs.Props.{props};
 ghost use Rattle.j39_log.specs.Identifiers.{AreKnown, IsWritten};
 ghost use Rattle.j39_frame.specs.declared.identifier.Id.{Id};
@@ -37,33 +36,33 @@ impl Identifiers {
         }
     }
 
-    /// The identifier that eight hex digits write; `None` where they write none.
+    /// The identifier that eight hex digits write, where it is remembered.
     #[inline(always)]
-    pub(crate) fn of(&mut self, digits: &[u8; 8]) -> Option<Id>
-        ensures some { IfSome result (IsWritten digits.now) }
-        ensures none { result ≡ None → (id : Id) → IsWritten digits.now id → ⊥ }
+    pub(crate) fn of(&self, digits: &[u8; 8]) -> Option<Id>
+        ensures { IfSome result (IsWritten digits.now) }
     {
         let number = u64::from_le_bytes(*digits);
-        let place = place_of(number);
-        let known = self.known[place];
+        let known = &self.known[place_of(number)];
         if known.digits == number {
             Some(known.id)
         } else {
-            self.learn(place, number, digits)
+            None
         }
     }
 
-    /// Reads the digits, and remembers what they write.
-    #[inline(never)]
-    fn learn(&mut self, place: usize, number: u64, digits: &[u8; 8]) -> Option<Id>
-        requires place { place < 2048 }
-        requires number { digits.now ≡ to_le_bytes w64 number }
-        ensures some { IfSome result (IsWritten digits.now) }
-        ensures none { result ≡ None → (id : Id) → IsWritten digits.now id → ⊥ }
-    {
-        let id = id_of(digits)?;
-        self.known[place] = Known { digits: number, id };
-        Some(id)
+    /// Remembers what eight hex digits write; whether that is new.
+    pub(crate) fn learn(&mut self, digits: &[u8; 8]) -> bool {
+        if self.of(digits).is_some() {
+            return false;
+        }
+        let number = u64::from_le_bytes(*digits);
+        match id_of(digits) {
+            Some(id) => {
+                self.known[place_of(number)] = Known { digits: number, id };
+                true
+            }
+            None => false,
+        }
     }
 }
 

@@ -1,9 +1,12 @@
 //! What most lines share with one before: the second of the stamp, and the identifier.
 ghost use Rattle.std.specs.Prelude.{◌≡◌, ◌++◌, codes, replicate};
 
+use crate::Bus;
 use crate::fast::form::Form;
+use crate::fast::frame_line::FrameLine;
 use crate::fast::identifiers::Identifiers;
 use crate::fast::plain::second_of;
+use crate::fast::reader::with_six;
 use j39_io::backwards::slice_before;
 use std::marker::Model;
 
@@ -15,6 +18,9 @@ pub struct LastSecond {
 }
 
 impl LastSecond {
+    ghost use Rattle.std.specs.Prelude.{IfSome};
+    ghost use Rattle.j39_log.specs.FrameLine.{BeginsLine};
+
     /// The second 0, and no identifiers.
     pub fn new() -> LastSecond
         ensures second { result.second ≡ 0 }
@@ -22,6 +28,48 @@ impl LastSecond {
         LastSecond {
             second: Second::new(),
             identifiers: Identifiers::new(),
+        }
+    }
+
+    /// The line of a frame of this bus that a piece begins with, and what follows its newline, where the line has the form that
+    /// `Splitter::line_on` reads, with six decimals and nothing behind the data, and its second and its identifier are remembered.
+    /// `None` says nothing of the piece.
+    #[inline(always)]
+    pub fn line_on<'a>(&self, piece: &'a [u8], bus: &Bus) -> Option<(FrameLine<'a>, &'a [u8])>
+        ensures { IfSome result (λ found. BeginsLine piece.now bus.now found.0 found.1.now) }
+    {
+        if bus.third_at > piece.len() {
+            return None;
+        }
+        let (_, third) = piece.split_at(bus.third_at);
+        // Another end is left out, so a loop over such lines has no call, and loads once what it compares with.
+        match third.get(25) {
+            Some(b'\n') => with_six(piece, self, bus),
+            _ => None,
+        }
+    }
+
+    /// Turns to the second of a line of this bus, and remembers its identifier, with six decimals before it or nine; whether either
+    /// is new. What is remembered changes no answer.
+    #[inline(never)]
+    pub(crate) fn turn_to(&mut self, line: &[u8], bus: &Bus) -> bool {
+        let turned = !self.second.begins(line) && self.second.turn_to(line);
+        if bus.third_at > line.len() {
+            return turned;
+        }
+        let (_, third) = line.split_at(bus.third_at);
+        let learned = match third.split_first_chunk::<3>() {
+            Some((_, behind)) => self.learn(third) || self.learn(behind),
+            None => false,
+        };
+        turned || learned
+    }
+
+    /// Remembers the identifier that a text begins with; whether it is new.
+    fn learn(&mut self, text: &[u8]) -> bool {
+        match text.split_first_chunk::<8>() {
+            Some((digits, _)) => self.identifiers.learn(digits),
+            None => false,
         }
     }
 }

@@ -26,7 +26,7 @@ pub(crate) fn first_line<'a>(
     match of_last_second(bytes, last, bus) {
         Some(found) => Some(found),
         None => {
-            if last.second.begins(bytes) || !last.second.turn_to(bytes) {
+            if !last.turn_to(bytes, bus) {
                 return None;
             }
             of_last_second(bytes, last, bus)
@@ -34,11 +34,11 @@ pub(crate) fn first_line<'a>(
     }
 }
 
-/// The same, of a line of the last second.
+/// The same, of a line whose second and identifier are remembered.
 #[inline(always)]
 fn of_last_second<'a>(
     bytes: &'a [u8],
-    last: &mut LastSecond,
+    last: &LastSecond,
     bus: &Bus,
 ) -> Option<(FrameLine<'a>, &'a [u8])>
     ensures { IfSome result (λ found. BeginsLine bytes.now bus.now found.0 found.1.now) }
@@ -49,11 +49,11 @@ fn of_last_second<'a>(
     }
 }
 
-/// The same, of a line of the last second with six decimals.
+/// The same, of one with six decimals.
 #[inline(always)]
-fn with_six<'a>(
+pub(crate) fn with_six<'a>(
     bytes: &'a [u8],
-    last: &mut LastSecond,
+    last: &LastSecond,
     bus: &Bus,
 ) -> Option<(FrameLine<'a>, &'a [u8])>
     ensures { IfSome result (λ found. BeginsLine bytes.now bus.now found.0 found.1.now) }
@@ -69,11 +69,7 @@ fn with_six<'a>(
 
 /// The same, of one with nine.
 #[inline(always)]
-fn with_nine<'a>(
-    bytes: &'a [u8],
-    last: &mut LastSecond,
-    bus: &Bus,
-) -> Option<(FrameLine<'a>, &'a [u8])>
+fn with_nine<'a>(bytes: &'a [u8], last: &LastSecond, bus: &Bus) -> Option<(FrameLine<'a>, &'a [u8])>
     ensures { IfSome result (λ found. BeginsLine bytes.now bus.now found.0 found.1.now) }
 {
     if bus.third_at > bytes.len() {
@@ -103,7 +99,7 @@ fn formed<'a>(
     bytes: &'a [u8],
     between: &[u8; 16],
     third_at: usize,
-    last: &mut LastSecond,
+    last: &LastSecond,
     bus: &Bus,
 ) -> Option<(FrameLine<'a>, &'a [u8])>
     ensures { IfSome result (λ found. HasForm bytes.now between.now third_at bus.now found.0 found.1.now) }
@@ -131,6 +127,7 @@ fn formed<'a>(
         second,
         id,
         data,
+        values: values.to_array(),
     };
     Some((line, rest))
 }
@@ -143,16 +140,18 @@ fn after_end(end: u8, rest: &[u8]) -> Option<&[u8]>
 {
     match end {
         b'\n' => Some(rest),
-        b'\r' => after_newline(rest),
         _ => after_flag(end, rest),
     }
 }
 
-/// The same, where a space comes first. It is no part of its caller, whose way for most lines so stays short.
+/// The same, where a space or a CR comes first. It is no part of its caller, whose way for most lines so stays short.
 #[inline(never)]
 fn after_flag(end: u8, rest: &[u8]) -> Option<&[u8]>
     ensures { IfSome result (λ later. EndsAt (end ∷ rest.now) later.now) }
 {
+    if end == b'\r' {
+        return after_newline(rest);
+    }
     if end != b' ' {
         return None;
     }

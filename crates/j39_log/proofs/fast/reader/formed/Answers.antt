@@ -32,7 +32,7 @@ returns c =
         text_is = sym c.split_at.ensures.back ∙ p.0 ∙ ap (λ m. c.in_ok-digits.digits.now ++ (m ∷ (c.in_ok-data.data.now ++ (c.in_ok-end.end.now ∷ c.in_ok-third.rest.now)))) c.if-hash-ne35.false;
         digits_fit = p.1;
         data_fit = p.2;
-        written = c.in_ok-id.ensures.some;
+        written = c.in_ok-id.ensures;
         bytes_are = c.values_of-values.ensures.digits (OnTrue_at c.if-not-have_form.false c.have_form.ensures.values);
         ends = c.in_ok-rest.ensures;
       };

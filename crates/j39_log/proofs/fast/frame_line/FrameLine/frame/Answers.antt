@@ -16,5 +16,5 @@ returns c =
       stamp_is = λ begins cut digits short. subst (IsStampText (front ++ (cut ++ (41 ∷ [])))) (sym stamp)
           (stamp_read front cut _ _ begins.second (c.decimals.ensures.value _ begins.second begins.decimals) digits short);
       id_is = ap (λ (f : FrameRecord). f.id) is;
-      bytes_are = ap (λ (f : FrameRecord). f.bytes) is ∙ c.from_array_in-bytes.ensures.items ∙ c.pairs.ensures ∙ ap (λ v. map (pair_at 16 v) (range_with_len 0 8)) c.values_of.ensures.value;
+      bytes_are = ap (λ (f : FrameRecord). f.bytes) is ∙ c.from_array_in-bytes.ensures.items ∙ c.pairs.ensures ∙ ap (λ v. map (pair_at 16 v) (range_with_len 0 8)) c.args.self.now.read;
     }
