@@ -65,11 +65,11 @@ impl LastSecond {
         turned || learned
     }
 
-    /// Remembers the identifier that a text begins with; whether it is new.
+    /// Remembers the identifier that a text begins with, before `#`; whether it is new.
     fn learn(&mut self, text: &[u8]) -> bool {
         match text.split_first_chunk::<8>() {
-            Some((digits, _)) => self.identifiers.learn(digits),
-            None => false,
+            Some((digits, [b'#', ..])) => self.identifiers.learn(digits),
+            _ => false,
         }
     }
 }

@@ -140,18 +140,16 @@ fn after_end(end: u8, rest: &[u8]) -> Option<&[u8]>
 {
     match end {
         b'\n' => Some(rest),
+        b'\r' => after_newline(rest),
         _ => after_flag(end, rest),
     }
 }
 
-/// The same, where a space or a CR comes first. It is no part of its caller, whose way for most lines so stays short.
+/// The same, where a space comes first. It is no part of its caller, whose way for most lines so stays short.
 #[inline(never)]
 fn after_flag(end: u8, rest: &[u8]) -> Option<&[u8]>
     ensures { IfSome result (λ later. EndsAt (end ∷ rest.now) later.now) }
 {
-    if end == b'\r' {
-        return after_newline(rest);
-    }
     if end != b' ' {
         return None;
     }
